@@ -1,0 +1,6 @@
+pub mod Appended
+pub mod Outside
+pub mod Calls
+pub mod Supply
+pub mod Store
+pub mod Whole

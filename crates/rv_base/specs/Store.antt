@@ -1,0 +1,37 @@
+-- What a sink in memory holds, and what a write adds to it.
+use Rattle.std.specs.Prelude.{◌≡◌, ℕ, ◌≤◌, min, List, [], ◌++◌, length, take}
+use Rattle.rv_base.specs.Calls.{Calls, no_calls}
+use Rattle.rv_base.specs.declared.outside.WriteAnswer.{WriteAnswer}
+use Rattle.rv_base.specs.declared.outside.WriteAnswer.TheVariants.{Took, Failed, NoMemory}
+
+-- The bytes taken, and the most that one write takes.
+pub record Store : Type 0 where
+  pub taken : List ℕ
+  pub most : ℕ
+
+-- A store some of whose writes are to fail.
+pub record FailingStore : Type 0 where
+  pub store : Store
+  pub calls : Calls
+
+-- Nothing is taken yet.
+abbrev pub new_store : ℕ → Store
+new_store most = record { taken = []; most = most }
+
+-- Nothing is taken yet, no write was made, and those with these numbers are to fail.
+abbrev pub new_failing_store : ℕ → List ℕ → FailingStore
+new_failing_store most failing = record { store = new_store most; calls = no_calls failing }
+
+-- A write that doesn't fail. It takes the lesser of the most that one write takes and the length
+-- of the piece; or the sink's memory can't grow, and nothing is taken.
+abbrev pub Takes : Store → Store → List ℕ → WriteAnswer → Type 0
+Takes old new piece (Took count) =
+    (1 ≤ count)
+    × (count ≡ min old.most (length piece))
+    × (new ≡ record { taken = old.taken ++ take count piece; most = old.most })
+Takes old new piece Failed = ⊥
+Takes old new piece NoMemory = new ≡ old
+
+-- A write that is to fail: it answers so, and nothing is taken.
+abbrev pub RefusesWrite : Store → Store → WriteAnswer → Type 0
+RefusesWrite old new answer = (answer ≡ Failed) × (new ≡ old)

@@ -1,0 +1,31 @@
+//! What every other crate stands on.
+//!
+//! The compiler computes over values and meets the world in two places: it reads bytes and it
+//! writes them. This layer has what all of that shares, and knows nothing of protocols.
+//!
+//! - `items`: a list that contracts see as the list of its items.
+//! - `no_memory`: the one error of a call that allocates.
+//! - `numbers`: numbers as decimal text.
+//! - `outside`: sources and sinks of bytes, as traits. A contract speaks of the bytes left or
+//!   taken, where they are told, and of a count of faults: a call may answer that reading or
+//!   writing failed only where the count of that source or sink rose.
+//! - `memory`: sources and sinks in memory, which do exactly as they are told, failing calls
+//!   included.
+//! - `whole`: the two loops over the outside, a file read to its end and a text written whole.
+//!
+//! The definitions that the contracts cite are in `specs/`, a file for each idea.
+#![tactic(auto)]
+
+mod items;
+mod memory;
+mod no_memory;
+mod numbers;
+mod outside;
+mod whole;
+
+pub use items::Items;
+pub use memory::{MemorySink, MemorySource, SteadySink, SteadySource};
+pub use no_memory::NoMemory;
+pub use numbers::put_number;
+pub use outside::{ReadAnswer, Sink, Source, WriteAnswer};
+pub use whole::{FILE_LIMIT, Gathered, Wrote, read_whole, write_whole};

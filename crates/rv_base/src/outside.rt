@@ -1,0 +1,60 @@
+//! Where bytes come from and where they go: sources, sinks, and what a call on one answers.
+
+ghost use Rattle.std.specs.Prelude.{◌<◌, List, ℕ, length};
+ghost use Rattle.std.specs.declared.option.Option.{Option};
+ghost use Rattle.rv_base.specs.Outside.{ReadMoves, WriteMoves, ReadCounts, WriteCounts};
+
+/// What a read answers.
+#[derive(Clone, Copy, Debug, PartialEq, Eq)]
+pub enum ReadAnswer {
+    /// So many bytes, at least 1, stand at the front of the buffer and are no longer left.
+    Got(usize),
+    /// Nothing is left.
+    End,
+    /// A fault, which was counted. What is left stays.
+    Failed,
+    /// There is no memory for the call. What is left stays. A source that tells what is left
+    /// never answers so.
+    NoMemory,
+}
+
+/// What a write answers.
+#[derive(Clone, Copy, Debug, PartialEq, Eq)]
+pub enum WriteAnswer {
+    /// So many bytes of the piece's front, at least 1, were taken.
+    Took(usize),
+    /// A fault, which was counted. Nothing was taken.
+    Failed,
+    /// There is no memory for the call. Nothing was taken.
+    NoMemory,
+}
+
+/// Bytes that are read from front to back.
+pub trait Source {
+    /// The bytes left, where the source tells them.
+    ghost left: { Self → Option (List ℕ) };
+
+    /// How many reads failed. The count never falls, and stops at 2^64 - 1.
+    ghost faults: { Self → ℕ };
+
+    /// Reads at least one and at most `into.len()` bytes to the front of `into`, or says why not.
+    fn read(&mut self, into: &mut [u8]) -> ReadAnswer
+        requires { 0 < length into.old }
+        ensures bytes { ReadMoves (left self.old) (left self.new) into.new result }
+        ensures cause { ReadCounts (faults self.old) (faults self.new) result };
+}
+
+/// What takes bytes, one after another.
+pub trait Sink {
+    /// The bytes taken, where the sink tells them.
+    ghost taken: { Self → Option (List ℕ) };
+
+    /// How many writes failed. The count never falls, and stops at 2^64 - 1.
+    ghost faults: { Self → ℕ };
+
+    /// Takes at least one byte and at most all of `piece`, from its front, or says why not.
+    fn write(&mut self, piece: &[u8]) -> WriteAnswer
+        requires { 0 < length piece.now }
+        ensures bytes { WriteMoves (taken self.old) (taken self.new) piece.now result }
+        ensures cause { WriteCounts (faults self.old) (faults self.new) result };
+}

@@ -1,0 +1,112 @@
+//! A source read to its end, and a text written whole.
+
+ghost use Rattle.std.specs.Prelude.{◌≡◌, ◌≤◌, ◌<◌, List};
+ghost use Rattle.rv_base.specs.Whole.{Reads, ReadCauses, Writes, WriteCauses};
+
+use crate::{ReadAnswer, Sink, Source, WriteAnswer};
+use std::alloc::Global;
+
+/// The most bytes that a file may have.
+pub const FILE_LIMIT: usize = 65_536;
+
+// How many bytes one read asks for, at most.
+const PIECE: usize = 1_024;
+
+/// What came of reading a source to its end.
+#[derive(Debug, Drop)]
+pub enum Gathered {
+    /// All that was left. The source was read to its end.
+    Whole(Vec<u8>),
+    /// More than `FILE_LIMIT` bytes were left. One more than the limit was taken.
+    TooLong,
+    /// A read failed, and the source counted the fault. At most `FILE_LIMIT` bytes were taken.
+    Failed,
+    /// There is no memory for the bytes, or the source had none for a read. At most one byte more
+    /// than `FILE_LIMIT` was taken.
+    NoMemory,
+}
+
+/// What came of writing a text whole.
+#[derive(Clone, Copy, Debug, PartialEq, Eq)]
+pub enum Wrote {
+    /// All of the text was taken.
+    Whole,
+    /// A write failed, and the sink counted the fault. A part of the text was taken.
+    Failed,
+    /// The sink had no memory for a write. A part of the text was taken.
+    NoMemory,
+}
+
+/// Reads a source to its end, or to one byte past the limit of a file.
+pub fn read_whole<S: Source>(alloc: Global, source: &mut S) -> Gathered
+    ensures bytes { Reads (S.left source.old) (S.left source.new) result }
+    ensures cause { ReadCauses (S.faults source.old) (S.faults source.new) result }
+{
+    let mut bytes = Vec::new(alloc);
+    let mut piece = [0u8; PIECE];
+    while bytes.len() <= FILE_LIMIT {
+        let room = PIECE.min(FILE_LIMIT + 1 - bytes.len());
+        match source.read(&mut piece[..room]) {
+            ReadAnswer::Got(count) => {
+                if bytes.extend_from_slice(&piece[..count]).is_err() {
+                    return Gathered::NoMemory;
+                }
+            }
+            ReadAnswer::End => return Gathered::Whole(bytes),
+            ReadAnswer::Failed => return Gathered::Failed,
+            ReadAnswer::NoMemory => return Gathered::NoMemory,
+        }
+    }
+    Gathered::TooLong
+}
+
+/// Writes a text whole, in as many writes as the sink needs, or a part of it.
+pub fn write_whole<O: Sink>(out: &mut O, text: &[u8]) -> Wrote
+    ensures bytes { Writes (O.taken out.old) (O.taken out.new) text.now result }
+    ensures cause { WriteCauses (O.faults out.old) (O.faults out.new) result }
+{
+    let mut done = 0;
+    while done < text.len() {
+        match out.write(&text[done..]) {
+            WriteAnswer::Took(count) => done += count,
+            WriteAnswer::Failed => return Wrote::Failed,
+            WriteAnswer::NoMemory => return Wrote::NoMemory,
+        }
+    }
+    Wrote::Whole
+}
+
+#[cfg(test)]
+mod tests {
+    use super::*;
+    use crate::{MemorySink, MemorySource, SteadySink, SteadySource};
+    use std::test::Fail;
+
+    #[test]
+    fn a_file_has_at_most_65536_bytes(rt: HostRuntime) -> Result<(), Fail> {
+        for (length, gathered) in [(0, Some(0)), (65_536, Some(65_536)), (65_537, None)] {
+            let file = vec![in rt.alloc(); b'x'; length]?;
+            let mut source = SteadySource::new(rt.alloc(), &file, 1_000)?;
+            let found = match read_whole(rt.alloc(), &mut source) {
+                Gathered::Whole(bytes) => Some(bytes.len()),
+                Gathered::TooLong => None,
+                Gathered::Failed | Gathered::NoMemory => return Err("no answer".into()),
+            };
+            assert_eq!(rt; found, gathered, "of {length} bytes");
+        }
+        Ok(())
+    }
+
+    #[test]
+    fn a_fault_in_mid_stream_ends_the_loop(rt: HostRuntime) -> Result<(), Fail> {
+        let mut source = MemorySource::new(rt.alloc(), b"abcde", 2, &[2])?;
+        assert!(rt; matches!(read_whole(rt.alloc(), &mut source), Gathered::Failed));
+        let mut steady = SteadySink::new(rt.alloc(), 2);
+        assert_eq!(rt; write_whole(&mut steady, b"abcde"), Wrote::Whole);
+        assert_eq!(rt; steady.taken(), b"abcde".as_slice());
+        let mut failing = MemorySink::new(rt.alloc(), 2, &[3])?;
+        assert_eq!(rt; write_whole(&mut failing, b"abcde"), Wrote::Failed);
+        assert_eq!(rt; failing.taken(), b"abcd".as_slice());
+        Ok(())
+    }
+}
