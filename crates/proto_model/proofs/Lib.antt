@@ -1,0 +1,3 @@
+pub mod LaidMarks
+pub mod LaidOutSpells
+pub mod Writing

@@ -1,0 +1,6 @@
+-- So far the first items are copied.
+use Rattle.std.proofs.Common.{◌≡◌, take}
+use Rattle.proto_model.proofs.copies.copied_items.Given as goal
+
+abbrev pub invariant-loop-item : goal.invariant-loop-item
+invariant-loop-item g l = l.copies ≡ take l.item-index l.item-items

@@ -1,0 +1,17 @@
+pub mod Tokens
+pub mod Laid
+pub mod Lexemes
+pub mod Grammar
+pub mod Sayable
+pub mod Spelled
+pub mod LaidOut
+pub mod Names
+pub mod Types
+pub mod Star
+pub mod Known
+pub mod Agreement
+pub mod Faults
+pub mod Numbered
+pub mod RuleTypes
+pub mod Proper
+pub mod Marks

@@ -1,0 +1,127 @@
+-- The numbered protocol: each used name replaced by the place of its first declaration, counted from
+-- 0, among its own kind. A name that is not declared gets 0; a well-formed protocol uses none.
+use Rattle.std.specs.Prelude.{ℕ, List, unwrap_or, map}
+use Rattle.std.specs.Option.{option_map}
+use Rattle.proto_model.specs.Tokens.{Text}
+use Rattle.proto_model.specs.Names.{place_of, message_names, var_names, state_names}
+use Rattle.proto_model.specs.declared.protocol.Message.{Message}
+use Rattle.proto_model.specs.declared.protocol.Initial.{Initial}
+use Rattle.proto_model.specs.declared.protocol.Initial.TheVariants as initial
+use Rattle.proto_model.specs.declared.protocol.Var.{Var}
+use Rattle.proto_model.specs.declared.protocol.State.{State}
+use Rattle.proto_model.specs.declared.protocol.Process.{Process}
+use Rattle.proto_model.specs.declared.protocol.Protocol.{Protocol}
+use Rattle.proto_model.specs.declared.guard.Term.{Term}
+use Rattle.proto_model.specs.declared.guard.Term.TheVariants as term
+use Rattle.proto_model.specs.declared.guard.Expr.{Expr}
+use Rattle.proto_model.specs.declared.guard.Expr.TheVariants as expr
+use Rattle.proto_model.specs.declared.guard.Atom.{Atom}
+use Rattle.proto_model.specs.declared.guard.Assign.{Assign}
+use Rattle.proto_model.specs.declared.guard.Partner.{Partner}
+use Rattle.proto_model.specs.declared.guard.Partner.TheVariants as partner
+use Rattle.proto_model.specs.declared.guard.GuardKind.{GuardKind}
+use Rattle.proto_model.specs.declared.guard.GuardKind.TheVariants as action
+use Rattle.proto_model.specs.declared.guard.Guard.{Guard}
+use Rattle.proto_model.specs.declared.numbered.Value.{Value}
+use Rattle.proto_model.specs.declared.numbered.Value.TheVariants as value
+use Rattle.proto_model.specs.declared.numbered.RuleTerm.{RuleTerm}
+use Rattle.proto_model.specs.declared.numbered.RuleTerm.TheVariants as rule_term
+use Rattle.proto_model.specs.declared.numbered.RuleExpr.{RuleExpr}
+use Rattle.proto_model.specs.declared.numbered.RuleExpr.TheVariants as rule_expr
+use Rattle.proto_model.specs.declared.numbered.RuleAtom.{RuleAtom}
+use Rattle.proto_model.specs.declared.numbered.RuleAssign.{RuleAssign}
+use Rattle.proto_model.specs.declared.numbered.RulePartner.{RulePartner}
+use Rattle.proto_model.specs.declared.numbered.RulePartner.TheVariants as rule_partner
+use Rattle.proto_model.specs.declared.numbered.RuleKind.{RuleKind}
+use Rattle.proto_model.specs.declared.numbered.RuleKind.TheVariants as rule_kind
+use Rattle.proto_model.specs.declared.numbered.Rule.{Rule}
+use Rattle.proto_model.specs.declared.numbered.StateInfo.{StateInfo}
+use Rattle.proto_model.specs.declared.numbered.VarInfo.{VarInfo}
+use Rattle.proto_model.specs.declared.numbered.MessageInfo.{MessageInfo}
+use Rattle.proto_model.specs.declared.numbered.Body.{Body}
+
+-- a protocol in numbered form
+pub record NumberedProtocol : Type 0 where
+  pub name : Text
+  pub messages : List MessageInfo
+  pub home : Body
+  pub remote : Body
+
+-- the place of the first declaration of the name
+abbrev pub place_or_zero : Text → List Text → ℕ
+place_or_zero name names = unwrap_or (place_of name names) 0
+
+module _ (vars : List Var) where
+  abbrev pub numbered_var : Text → ℕ
+  numbered_var name = place_or_zero name (var_names vars)
+
+  abbrev pub numbered_term : Term → RuleTerm
+  numbered_term (term.Number n) = rule_term.Number n
+  numbered_term (term.Named name) = rule_term.Var (numbered_var name)
+  numbered_term term.Nowhere = rule_term.Nowhere
+  numbered_term term.Empty = rule_term.Empty
+
+  abbrev pub numbered_expr : Expr → RuleExpr
+  numbered_expr (expr.One t) = rule_expr.One (numbered_term t)
+  numbered_expr (expr.Plus t u) = rule_expr.Plus (numbered_term t) (numbered_term u)
+  numbered_expr (expr.Minus t u) = rule_expr.Minus (numbered_term t) (numbered_term u)
+
+  abbrev pub numbered_atom : Atom → RuleAtom
+  numbered_atom a = record { left = numbered_expr a.left; rel = a.rel; right = numbered_expr a.right }
+
+  abbrev pub numbered_assign : Assign → RuleAssign
+  numbered_assign a = record { var = numbered_var a.var; value = numbered_expr a.value }
+
+  abbrev pub numbered_partner : Partner → RulePartner
+  numbered_partner partner.Home = rule_partner.Home
+  numbered_partner (partner.Any x) = rule_partner.Any (numbered_var x)
+  numbered_partner (partner.Member x s) = rule_partner.Member (numbered_var x) (numbered_var s)
+  numbered_partner (partner.Named x) = rule_partner.Named (numbered_var x)
+
+  abbrev pub numbered_action : List Message → GuardKind → RuleKind
+  numbered_action messages action.Tau = rule_kind.Tau
+  numbered_action messages (action.Input p m bound) =
+      rule_kind.Input (numbered_partner p) (place_or_zero m (message_names messages)) (option_map numbered_var bound)
+  numbered_action messages (action.Output p m sent) =
+      rule_kind.Output (numbered_partner p) (place_or_zero m (message_names messages)) (option_map numbered_expr sent)
+
+abbrev pub numbered_guard : List Message → List Var → List State → Guard → Rule
+numbered_guard messages vars states g = record {
+  kind = numbered_action vars messages g.kind;
+  conds = map (numbered_atom vars) g.conds;
+  assigns = map (numbered_assign vars) g.assigns;
+  next = place_or_zero g.next (state_names states);
+}
+
+abbrev pub numbered_state : List Message → List Var → List State → State → StateInfo
+numbered_state messages vars states s = record {
+  name = s.name;
+  rules = map (numbered_guard messages vars states) s.guards;
+}
+
+-- none is no remote, empty is the set without a bit
+abbrev pub numbered_first : Initial → Value
+numbered_first (initial.Number n) = value.Int n
+numbered_first initial.Nowhere = value.Nowhere
+numbered_first initial.Empty = value.Set 0
+
+abbrev pub numbered_declaration : Var → VarInfo
+numbered_declaration v = record { name = v.name; kind = v.kind; first = numbered_first v.first }
+
+abbrev pub numbered_message : Message → MessageInfo
+numbered_message m = record { name = m.name; up = m.up; carries = m.carries }
+
+abbrev pub numbered_process : List Message → Process → Body
+numbered_process messages p = record {
+  vars = map numbered_declaration p.vars;
+  start = place_or_zero p.start (state_names p.states);
+  states = map (numbered_state messages p.vars p.states) p.states;
+}
+
+abbrev pub numbered : Protocol → NumberedProtocol
+numbered p = record {
+  name = p.name;
+  messages = map numbered_message p.messages;
+  home = numbered_process p.messages p.home;
+  remote = numbered_process p.messages p.remote;
+}

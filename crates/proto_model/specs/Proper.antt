@@ -1,0 +1,140 @@
+-- A proper numbered protocol: within the limits, all places and numbers in range, types and directions
+-- agree, star form and active form hold.
+use Rattle.std.specs.Prelude.{◌≡◌, ℕ, ◌<◌, ◌≤◌, Bool, true, false, List, [], ◌∷◌, length, Option, Some, None}
+use Rattle.std.specs.List.{list_any, AllByRecursion}
+use Rattle.proto_model.specs.Numbered.{NumberedProtocol}
+use Rattle.proto_model.specs.RuleTypes.{rule_atom_agrees, rule_assign_agrees, rule_action_agrees, is_directed_rule, is_star_rule}
+use Rattle.proto_model.specs.declared.protocol.Carry.{Carry}
+use Rattle.proto_model.specs.declared.protocol.Carry.TheVariants as carry
+use Rattle.proto_model.specs.declared.protocol.VarKind.{VarKind}
+use Rattle.proto_model.specs.declared.protocol.VarKind.TheVariants as kind
+use Rattle.proto_model.specs.declared.numbered.Side.{Side}
+use Rattle.proto_model.specs.declared.numbered.Side.TheVariants as side
+use Rattle.proto_model.specs.declared.numbered.Value.{Value}
+use Rattle.proto_model.specs.declared.numbered.Value.TheVariants as value
+use Rattle.proto_model.specs.declared.numbered.RuleTerm.{RuleTerm}
+use Rattle.proto_model.specs.declared.numbered.RuleTerm.TheVariants as term
+use Rattle.proto_model.specs.declared.numbered.RuleExpr.{RuleExpr}
+use Rattle.proto_model.specs.declared.numbered.RuleExpr.TheVariants as expr
+use Rattle.proto_model.specs.declared.numbered.RuleAtom.{RuleAtom}
+use Rattle.proto_model.specs.declared.numbered.RuleAssign.{RuleAssign}
+use Rattle.proto_model.specs.declared.numbered.RulePartner.{RulePartner}
+use Rattle.proto_model.specs.declared.numbered.RulePartner.TheVariants as partner
+use Rattle.proto_model.specs.declared.numbered.RuleKind.{RuleKind}
+use Rattle.proto_model.specs.declared.numbered.RuleKind.TheVariants as action
+use Rattle.proto_model.specs.declared.numbered.Rule.{Rule}
+use Rattle.proto_model.specs.declared.numbered.StateInfo.{StateInfo}
+use Rattle.proto_model.specs.declared.numbered.VarInfo.{VarInfo}
+use Rattle.proto_model.specs.declared.numbered.MessageInfo.{MessageInfo}
+use Rattle.proto_model.specs.declared.numbered.Body.{Body}
+
+-- the bound of an int type is from 2 to 65,536
+abbrev pub IsBound : ℕ → Type 0
+IsBound n = (2 ≤ n) × (n ≤ 65536)
+
+abbrev pub IsProperCarry : Carry → Type 0
+IsProperCarry carry.Nothing = Unit {0}
+IsProperCarry (carry.Int n) = IsBound n
+IsProperCarry carry.Node = Unit {0}
+IsProperCarry carry.Set = Unit {0}
+
+abbrev pub IsProperKind : VarKind → Type 0
+IsProperKind (kind.Int n) = IsBound n
+IsProperKind kind.Node = Unit {0}
+IsProperKind kind.Set = Unit {0}
+
+-- the first value of an int is a number below its bound, that of a node is none, that of a set is empty
+abbrev pub IsFirstValue : VarKind → Value → Type 0
+IsFirstValue (kind.Int n) v = (k : ℕ) × (v ≡ value.Int k) × (k < n)
+IsFirstValue kind.Node v = v ≡ value.Nowhere
+IsFirstValue kind.Set v = v ≡ value.Set 0
+
+pub record IsProperVar (v : VarInfo) : Type 0 where
+  pub kind : IsProperKind v.kind
+  pub first : IsFirstValue v.kind v.first
+
+-- a number is at most 65,535, a variable is one of so many
+abbrev pub IsTermInRange : ℕ → RuleTerm → Type 0
+IsTermInRange count (term.Number n) = n < 65536
+IsTermInRange count (term.Var place) = place < count
+IsTermInRange count term.Nowhere = Unit {0}
+IsTermInRange count term.Empty = Unit {0}
+
+abbrev pub IsExprInRange : ℕ → RuleExpr → Type 0
+IsExprInRange count (expr.One t) = IsTermInRange count t
+IsExprInRange count (expr.Plus t u) = IsTermInRange count t × IsTermInRange count u
+IsExprInRange count (expr.Minus t u) = IsTermInRange count t × IsTermInRange count u
+
+abbrev pub IsPartnerInRange : ℕ → RulePartner → Type 0
+IsPartnerInRange count partner.Home = Unit {0}
+IsPartnerInRange count (partner.Any x) = x < count
+IsPartnerInRange count (partner.Member x s) = (x < count) × (s < count)
+IsPartnerInRange count (partner.Named x) = x < count
+
+abbrev pub IsBoundInRange : ℕ → Option ℕ → Type 0
+IsBoundInRange count None = Unit {0}
+IsBoundInRange count (Some x) = x < count
+
+abbrev pub IsValueInRange : ℕ → Option RuleExpr → Type 0
+IsValueInRange count None = Unit {0}
+IsValueInRange count (Some e) = IsExprInRange count e
+
+-- of the number of variables and the number of messages
+abbrev pub IsActionInRange : ℕ → ℕ → RuleKind → Type 0
+IsActionInRange count messages action.Tau = Unit {0}
+IsActionInRange count messages (action.Input p m bound) =
+    IsPartnerInRange count p × (m < messages) × IsBoundInRange count bound
+IsActionInRange count messages (action.Output p m sent) =
+    IsPartnerInRange count p × (m < messages) × IsValueInRange count sent
+
+pub record IsProperAtom (vars : List VarInfo) (a : RuleAtom) : Type 0 where
+  pub left : IsExprInRange (length vars) a.left
+  pub right : IsExprInRange (length vars) a.right
+  pub types : rule_atom_agrees vars a ≡ true
+
+pub record IsProperAssign (vars : List VarInfo) (a : RuleAssign) : Type 0 where
+  pub var : a.var < length vars
+  pub value : IsExprInRange (length vars) a.value
+  pub types : rule_assign_agrees vars a ≡ true
+
+-- a remote's rule meets the home, a home's rule meets remotes
+pub record IsProperAction (s : Side) (messages : List MessageInfo) (vars : List VarInfo) (k : RuleKind) : Type 0 where
+  pub in_range : IsActionInRange (length vars) (length messages) k
+  pub types : rule_action_agrees vars s messages k ≡ true
+  pub direction : is_directed_rule s messages k ≡ true
+  pub star : is_star_rule s k ≡ true
+
+-- of a process with these variables and so many states
+pub record IsProperRule (s : Side) (messages : List MessageInfo) (vars : List VarInfo) (states : ℕ) (r : Rule) : Type 0 where
+  pub action : IsProperAction s messages vars r.kind
+  pub conds : AllByRecursion (IsProperAtom vars) r.conds
+  pub assigns : AllByRecursion (IsProperAssign vars) r.assigns
+  pub next : r.next < states
+
+abbrev pub is_output_kind : RuleKind → Bool
+is_output_kind action.Tau = false
+is_output_kind (action.Input p m bound) = false
+is_output_kind (action.Output p m sent) = true
+
+-- a remote state with an output has exactly that one rule, without a condition
+abbrev pub IsActiveForm : Side → List Rule → Type 0
+IsActiveForm side.Home rules = Unit {0}
+IsActiveForm side.Remote rules = list_any (λ r. is_output_kind r.kind) rules ≡ true → (r : Rule) × (rules ≡ r ∷ []) × (r.conds ≡ [])
+
+pub record IsProperState (s : Side) (messages : List MessageInfo) (vars : List VarInfo) (states : ℕ) (state : StateInfo) : Type 0 where
+  pub few_rules : length state.rules ≤ 16
+  pub rules : AllByRecursion (IsProperRule s messages vars states) state.rules
+  pub active : IsActiveForm s state.rules
+
+pub record IsProperBody (s : Side) (messages : List MessageInfo) (body : Body) : Type 0 where
+  pub few_vars : length body.vars ≤ 16
+  pub few_states : length body.states ≤ 64
+  pub vars : AllByRecursion IsProperVar body.vars
+  pub start : body.start < length body.states
+  pub states : AllByRecursion (IsProperState s messages body.vars (length body.states)) body.states
+
+pub record IsProper (n : NumberedProtocol) : Type 0 where
+  pub few_messages : length n.messages ≤ 64
+  pub messages : AllByRecursion (λ m. IsProperCarry m.carries) n.messages
+  pub home : IsProperBody side.Home n.messages n.home
+  pub remote : IsProperBody side.Remote n.messages n.remote

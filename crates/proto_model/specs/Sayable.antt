@@ -1,0 +1,111 @@
+-- Which protocols a file can say: each name is a NAME, and each number is from 0 to 99,999.
+use Rattle.std.specs.Prelude.{Option, Some, None}
+use Rattle.std.specs.List.{AllByRecursion}
+use Rattle.proto_model.specs.Tokens.{Text, IsName, IsNumber}
+use Rattle.proto_model.specs.declared.protocol.Carry.{Carry}
+use Rattle.proto_model.specs.declared.protocol.Carry.TheVariants as carry
+use Rattle.proto_model.specs.declared.protocol.Message.{Message}
+use Rattle.proto_model.specs.declared.protocol.VarKind.{VarKind}
+use Rattle.proto_model.specs.declared.protocol.VarKind.TheVariants as kind
+use Rattle.proto_model.specs.declared.protocol.Initial.{Initial}
+use Rattle.proto_model.specs.declared.protocol.Initial.TheVariants as first
+use Rattle.proto_model.specs.declared.protocol.Var.{Var}
+use Rattle.proto_model.specs.declared.protocol.State.{State}
+use Rattle.proto_model.specs.declared.protocol.Process.{Process}
+use Rattle.proto_model.specs.declared.protocol.Protocol.{Protocol}
+use Rattle.proto_model.specs.declared.guard.Term.{Term}
+use Rattle.proto_model.specs.declared.guard.Term.TheVariants as term
+use Rattle.proto_model.specs.declared.guard.Expr.{Expr}
+use Rattle.proto_model.specs.declared.guard.Expr.TheVariants as expr
+use Rattle.proto_model.specs.declared.guard.Atom.{Atom}
+use Rattle.proto_model.specs.declared.guard.Assign.{Assign}
+use Rattle.proto_model.specs.declared.guard.Partner.{Partner}
+use Rattle.proto_model.specs.declared.guard.Partner.TheVariants as partner
+use Rattle.proto_model.specs.declared.guard.GuardKind.{GuardKind}
+use Rattle.proto_model.specs.declared.guard.GuardKind.TheVariants as action
+use Rattle.proto_model.specs.declared.guard.Guard.{Guard}
+
+abbrev pub IsSayableCarry : Carry → Type 0
+IsSayableCarry carry.Nothing = Unit {0}
+IsSayableCarry (carry.Int n) = IsNumber n
+IsSayableCarry carry.Node = Unit {0}
+IsSayableCarry carry.Set = Unit {0}
+
+pub record IsSayableMessage (m : Message) : Type 0 where
+  pub name : IsName m.name
+  pub carries : IsSayableCarry m.carries
+
+abbrev pub IsSayableKind : VarKind → Type 0
+IsSayableKind (kind.Int n) = IsNumber n
+IsSayableKind kind.Node = Unit {0}
+IsSayableKind kind.Set = Unit {0}
+
+abbrev pub IsSayableInitial : Initial → Type 0
+IsSayableInitial (first.Number n) = IsNumber n
+IsSayableInitial first.Nowhere = Unit {0}
+IsSayableInitial first.Empty = Unit {0}
+
+pub record IsSayableVar (v : Var) : Type 0 where
+  pub name : IsName v.name
+  pub kind : IsSayableKind v.kind
+  pub first : IsSayableInitial v.first
+
+abbrev pub IsSayableTerm : Term → Type 0
+IsSayableTerm (term.Number n) = IsNumber n
+IsSayableTerm (term.Named name) = IsName name
+IsSayableTerm term.Nowhere = Unit {0}
+IsSayableTerm term.Empty = Unit {0}
+
+abbrev pub IsSayableExpr : Expr → Type 0
+IsSayableExpr (expr.One t) = IsSayableTerm t
+IsSayableExpr (expr.Plus t u) = IsSayableTerm t × IsSayableTerm u
+IsSayableExpr (expr.Minus t u) = IsSayableTerm t × IsSayableTerm u
+
+pub record IsSayableAtom (a : Atom) : Type 0 where
+  pub left : IsSayableExpr a.left
+  pub right : IsSayableExpr a.right
+
+pub record IsSayableAssign (a : Assign) : Type 0 where
+  pub var : IsName a.var
+  pub value : IsSayableExpr a.value
+
+abbrev pub IsSayablePartner : Partner → Type 0
+IsSayablePartner partner.Home = Unit {0}
+IsSayablePartner (partner.Any x) = IsName x
+IsSayablePartner (partner.Member x s) = IsName x × IsName s
+IsSayablePartner (partner.Named x) = IsName x
+
+abbrev pub IsSayableBound : Option Text → Type 0
+IsSayableBound None = Unit {0}
+IsSayableBound (Some x) = IsName x
+
+abbrev pub IsSayableValue : Option Expr → Type 0
+IsSayableValue None = Unit {0}
+IsSayableValue (Some e) = IsSayableExpr e
+
+abbrev pub IsSayableAction : GuardKind → Type 0
+IsSayableAction action.Tau = Unit {0}
+IsSayableAction (action.Input p m bound) = IsSayablePartner p × IsName m × IsSayableBound bound
+IsSayableAction (action.Output p m value) = IsSayablePartner p × IsName m × IsSayableValue value
+
+pub record IsSayableGuard (g : Guard) : Type 0 where
+  pub kind : IsSayableAction g.kind
+  pub conds : AllByRecursion IsSayableAtom g.conds
+  pub assigns : AllByRecursion IsSayableAssign g.assigns
+  pub next : IsName g.next
+
+pub record IsSayableState (s : State) : Type 0 where
+  pub name : IsName s.name
+  pub guards : AllByRecursion IsSayableGuard s.guards
+
+pub record IsSayableProcess (p : Process) : Type 0 where
+  pub vars : AllByRecursion IsSayableVar p.vars
+  pub start : IsName p.start
+  pub states : AllByRecursion IsSayableState p.states
+
+-- each name of the protocol is a NAME, and each number is from 0 to 99,999
+pub record IsSayable (p : Protocol) : Type 0 where
+  pub name : IsName p.name
+  pub messages : AllByRecursion IsSayableMessage p.messages
+  pub home : IsSayableProcess p.home
+  pub remote : IsSayableProcess p.remote
