@@ -1,0 +1,5 @@
+pub mod Front
+pub mod Reading
+pub mod Cursor
+pub mod Reads
+pub mod Answer

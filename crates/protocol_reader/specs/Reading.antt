@@ -1,0 +1,343 @@
+-- Reading from left to right: what each rule of the grammar takes from the lexemes, and where it stops.
+use Rattle.std.specs.Prelude.{refl, ℕ, zero, suc, ◌+◌, ◌*◌, ◌-◌, Bool, true, false, not, ◌&&◌, ◌==◌, nat_le, if◌then◌else◌, ◌⊎◌, List, [], ◌∷◌, ◌++◌, length, Option, Some, None, Result, Ok, Err, codes}
+use Rattle.std.proofs.Common.{inl, inr}
+use Rattle.std.specs.Coded.{Coded, code_by, coded×, coded_ℕ, coded_list}
+use Rattle.std.specs.List.{list_all, list_any}
+use Rattle.std.specs.Str.{bytes_eq, all_ascii_digits}
+use Rattle.proto_model.specs.Tokens.{Text, is_word, begins_name, is_reserved, Token, item, part}
+use Rattle.proto_model.specs.Lexemes.{Lexeme}
+use Rattle.proto_model.specs.Grammar.{semicolon, opening, closing}
+use Rattle.proto_model.specs.declared.protocol.Carry.{Carry}
+use Rattle.proto_model.specs.declared.protocol.Carry.TheVariants as carry
+use Rattle.proto_model.specs.declared.protocol.Message.{Message}
+use Rattle.proto_model.specs.declared.protocol.VarKind.{VarKind}
+use Rattle.proto_model.specs.declared.protocol.VarKind.TheVariants as kind
+use Rattle.proto_model.specs.declared.protocol.Initial.{Initial}
+use Rattle.proto_model.specs.declared.protocol.Initial.TheVariants as first
+use Rattle.proto_model.specs.declared.protocol.Var.{Var}
+use Rattle.proto_model.specs.declared.protocol.State.{State}
+use Rattle.proto_model.specs.declared.protocol.Process.{Process}
+use Rattle.proto_model.specs.declared.protocol.Protocol.{Protocol}
+use Rattle.proto_model.specs.declared.guard.Term.{Term}
+use Rattle.proto_model.specs.declared.guard.Term.TheVariants as term
+use Rattle.proto_model.specs.declared.guard.Expr.{Expr}
+use Rattle.proto_model.specs.declared.guard.Expr.TheVariants as expr
+use Rattle.proto_model.specs.declared.guard.Rel.{Rel}
+use Rattle.proto_model.specs.declared.guard.Rel.TheVariants as rel
+use Rattle.proto_model.specs.declared.guard.Atom.{Atom}
+use Rattle.proto_model.specs.declared.guard.Assign.{Assign}
+use Rattle.proto_model.specs.declared.guard.Partner.{Partner}
+use Rattle.proto_model.specs.declared.guard.Partner.TheVariants as partners
+use Rattle.proto_model.specs.declared.guard.GuardKind.{GuardKind}
+use Rattle.proto_model.specs.declared.guard.GuardKind.TheVariants as action
+use Rattle.proto_model.specs.declared.guard.Guard.{Guard}
+
+-- ---- where reading stands
+
+-- the lexemes from the next one on, and the lines of the items so far
+pub record At : Type 0 where
+  pub lexemes : List Lexeme
+  pub lines : List ℕ
+
+abbrev pub coded_lexeme : Coded Lexeme
+coded_lexeme = code_by (Text × ℕ) (coded× (coded_list coded_ℕ) coded_ℕ) (λ l. (l.text, l.line)) (λ p. record { text = p.0; line = p.1 }) (λ _. refl)
+
+abbrev pub coded_at : Coded At
+coded_at = code_by (List Lexeme × List ℕ) (coded× (coded_list coded_lexeme) (coded_list coded_ℕ)) (λ a. (a.lexemes, a.lines)) (λ p. record { lexemes = p.0; lines = p.1 }) (λ _. refl)
+
+-- the next lexeme
+abbrev pub first_of_all : List Lexeme → Lexeme
+first_of_all [] = record { text = []; line = 0 }
+first_of_all (l ∷ _) = l
+
+unfoldable pub text_at : At → Text
+text_at at = (first_of_all at.lexemes).text
+
+unfoldable pub line_at : At → ℕ
+line_at at = (first_of_all at.lexemes).line
+
+abbrev pub behind : List Lexeme → List Lexeme
+behind [] = []
+behind (_ ∷ ls) = ls
+
+-- after the next lexeme, which is this token
+unfoldable pub after : Token → At → At
+after t at = record { lexemes = behind at.lexemes; lines = if t.begins then at.lines ++ line_at at ∷ [] else at.lines }
+
+abbrev pub is_first : Text → List Lexeme → Bool
+is_first text [] = false
+is_first text (l ∷ _) = bytes_eq l.text text
+
+-- the next lexeme is this text
+unfoldable pub sees : Text → At → Bool
+sees text at = is_first text at.lexemes
+
+abbrev pub is_end : List Lexeme → Bool
+is_end (_ ∷ []) = true
+is_end _ = false
+
+-- only the end of the file is left
+unfoldable pub at_end : At → Bool
+at_end at = is_end at.lexemes
+
+-- the text is one of these words
+abbrev pub is_among : List Text → Text → Bool
+is_among words text = list_any (bytes_eq text) words
+
+-- ---- readers: a value and where reading then stands, or the line at which it stopped
+
+abbrev pub Outcome : Type 0 → Type 0
+Outcome A = Result (A × At) ℕ
+
+abbrev pub Reader : Type 0 → Type 0
+Reader A = At → Outcome A
+
+abbrev pub and_then : {A B : Type 0} → Outcome A → (A → Reader B) → Outcome B
+and_then (Ok p) f = f p.0 p.1
+and_then (Err n) f = Err n
+
+abbrev pub pure : {A : Type 0} → A → Reader A
+pure a = λ at. Ok (a, at)
+
+-- the value of the one is made into another
+abbrev pub mapped : {A B : Type 0} → (A → B) → Reader A → Reader B
+mapped f p = λ at. and_then (p at) (λ a. pure (f a))
+
+-- one and then the other
+abbrev pub both : {A B : Type 0} → Reader A → Reader B → Reader (A × B)
+both p q = λ at. and_then (p at) (λ a at2. and_then (q at2) (λ b. pure (a, b)))
+
+-- the token
+unfoldable pub token : Token → Reader (Unit {0})
+token t = λ at. if sees t.text at then Ok (tt, after t at) else Err (line_at at)
+
+-- the first behind the token where it comes next, else the second
+abbrev pub choice : {A B : Type 0} → Token → Reader A → Reader B → Reader (A ⊎ B)
+choice t p q = λ at. if sees t.text at then mapped inl p (after t at) else mapped inr q at
+
+-- any number of things, as long as one of these words comes next, and at most so many
+unfoldable pub many : {A : Type 0} → List Text → Reader A → ℕ → Reader (List A)
+many words p zero = pure []
+many words p (suc n) = λ at. if is_among words (text_at at) then mapped (λ x. x.0 ∷ x.1) (both p (many words p n)) at else Ok ([], at)
+
+-- each thing takes a lexeme at least, so the bound is never met
+unfoldable pub many_at : {A : Type 0} → List Text → Reader A → Reader (List A)
+many_at words p = λ at. many words p (length at.lexemes + 1) at
+
+-- ---- names and numbers
+
+unfoldable pub is_name : Text → Bool
+is_name text = begins_name text && list_all is_word text && not (is_reserved text)
+
+unfoldable pub name : Reader Text
+name = λ at. if is_name (text_at at) then Ok (text_at at, after (part (text_at at)) at) else Err (line_at at)
+
+abbrev pub value_from : ℕ → Text → ℕ
+value_from n [] = n
+value_from n (c ∷ cs) = value_from (10 * n + (c - 48)) cs
+
+-- no zero stands in front of other digits
+abbrev pub no_zero_first : Text → Bool
+no_zero_first [] = false
+no_zero_first (b ∷ []) = true
+no_zero_first (b ∷ c ∷ _) = not (b == 48)
+
+-- 0, or a digit from 1 to 9 and up to four further digits
+unfoldable pub is_number : Text → Bool
+is_number text = all_ascii_digits text && no_zero_first text && nat_le (length text) 5
+
+unfoldable pub number : Reader ℕ
+number = λ at. if is_number (text_at at) then Ok (value_from 0 (text_at at), after (part (text_at at)) at) else Err (line_at at)
+
+-- ---- rules
+
+abbrev pub nothing : Reader (Unit {0})
+nothing = pure tt
+
+abbrev pub word : Text → Reader (Unit {0})
+word text = token (part text)
+
+-- one or the other of two values, made from what a choice read
+abbrev pub direction_of : Unit {0} ⊎ Unit {0} → Bool
+direction_of (inl _) = true
+direction_of (inr _) = false
+
+unfoldable pub direction : Reader Bool
+direction = mapped direction_of (choice (part (codes "up")) nothing (word (codes "down")))
+
+abbrev pub carry_of : ℕ ⊎ (Unit {0} ⊎ (Unit {0} ⊎ Unit {0})) → Carry
+carry_of (inl n) = carry.Int n
+carry_of (inr (inl _)) = carry.Node
+carry_of (inr (inr (inl _))) = carry.Set
+carry_of (inr (inr (inr _))) = carry.Nothing
+
+unfoldable pub carried : Reader Carry
+carried = mapped carry_of (choice (part (codes "int")) number (choice (part (codes "node")) nothing (choice (part (codes "set")) nothing nothing)))
+
+abbrev pub message_of : Unit {0} × (Text × (Bool × (Carry × Unit {0}))) → Message
+message_of p = record { name = p.1.0; up = p.1.1.0; carries = p.1.1.1.0 }
+
+unfoldable pub message : Reader Message
+message = mapped message_of (both (token (item (codes "message"))) (both name (both direction (both carried (token semicolon)))))
+
+abbrev pub kind_of : ℕ ⊎ (Unit {0} ⊎ Unit {0}) → VarKind
+kind_of (inl n) = kind.Int n
+kind_of (inr (inl _)) = kind.Node
+kind_of (inr (inr _)) = kind.Set
+
+unfoldable pub var_kind : Reader VarKind
+var_kind = mapped kind_of (choice (part (codes "int")) number (choice (part (codes "node")) nothing (word (codes "set"))))
+
+abbrev pub initial_of : Unit {0} ⊎ (Unit {0} ⊎ ℕ) → Initial
+initial_of (inl _) = first.Nowhere
+initial_of (inr (inl _)) = first.Empty
+initial_of (inr (inr n)) = first.Number n
+
+unfoldable pub initial : Reader Initial
+initial = mapped initial_of (choice (part (codes "none")) nothing (choice (part (codes "empty")) nothing number))
+
+abbrev pub var_of : Unit {0} × (Text × (VarKind × (Unit {0} × (Initial × Unit {0})))) → Var
+var_of p = record { name = p.1.0; kind = p.1.1.0; first = p.1.1.1.1.0 }
+
+unfoldable pub variable : Reader Var
+variable = mapped var_of (both (token (item (codes "var"))) (both name (both var_kind (both (word (codes "=")) (both initial (token semicolon))))))
+
+-- a number where one comes next, else a name
+unfoldable pub number_or_name : Reader (ℕ ⊎ Text)
+number_or_name = λ at. if is_number (text_at at) then mapped inl number at else mapped inr name at
+
+abbrev pub term_of : Unit {0} ⊎ (Unit {0} ⊎ (ℕ ⊎ Text)) → Term
+term_of (inl _) = term.Nowhere
+term_of (inr (inl _)) = term.Empty
+term_of (inr (inr (inl n))) = term.Number n
+term_of (inr (inr (inr name))) = term.Named name
+
+unfoldable pub operand : Reader Term
+operand = mapped term_of (choice (part (codes "none")) nothing (choice (part (codes "empty")) nothing number_or_name))
+
+abbrev pub expr_of : Term × (Term ⊎ (Term ⊎ Unit {0})) → Expr
+expr_of (t, inl u) = expr.Plus t u
+expr_of (t, inr (inl u)) = expr.Minus t u
+expr_of (t, inr (inr _)) = expr.One t
+
+unfoldable pub expression : Reader Expr
+expression = mapped expr_of (both operand (choice (part (codes "+")) operand (choice (part (codes "-")) operand nothing)))
+
+abbrev pub rel_of : Unit {0} ⊎ (Unit {0} ⊎ (Unit {0} ⊎ (Unit {0} ⊎ (Unit {0} ⊎ Unit {0})))) → Rel
+rel_of (inl _) = rel.Eq
+rel_of (inr (inl _)) = rel.Ne
+rel_of (inr (inr (inl _))) = rel.Lt
+rel_of (inr (inr (inr (inl _)))) = rel.Le
+rel_of (inr (inr (inr (inr (inl _))))) = rel.Inside
+rel_of (inr (inr (inr (inr (inr _))))) = rel.Outside
+
+unfoldable pub relation : Reader Rel
+relation =
+    mapped rel_of (choice (part (codes "eq")) nothing (choice (part (codes "ne")) nothing (choice (part (codes "lt")) nothing
+    (choice (part (codes "le")) nothing (choice (part (codes "in")) nothing (word (codes "notin")))))))
+
+abbrev pub atom_of : Expr × (Rel × Expr) → Atom
+atom_of p = record { left = p.0; rel = p.1.0; right = p.1.1 }
+
+unfoldable pub atom : Reader Atom
+atom = mapped atom_of (both expression (both relation expression))
+
+unfoldable pub and_atom : Reader Atom
+and_atom = mapped (λ p. p.1) (both (word (codes "and")) atom)
+
+-- the first and the others, or none
+abbrev pub list_of : {A : Type 0} → (A × List A) ⊎ Unit {0} → List A
+list_of (inl p) = p.0 ∷ p.1
+list_of (inr _) = []
+
+unfoldable pub conditions : Reader (List Atom)
+conditions = mapped list_of (choice (part (codes "when")) (both atom (many_at (codes "and" ∷ []) and_atom)) nothing)
+
+abbrev pub assign_of : Text × (Unit {0} × Expr) → Assign
+assign_of p = record { var = p.0; value = p.1.1 }
+
+unfoldable pub assignment : Reader Assign
+assignment = mapped assign_of (both name (both (word (codes "=")) expression))
+
+unfoldable pub comma_assignment : Reader Assign
+comma_assignment = mapped (λ p. p.1) (both (word (codes ",")) assignment)
+
+unfoldable pub assignments : Reader (List Assign)
+assignments = mapped list_of (choice (part (codes "do")) (both assignment (many_at (codes "," ∷ []) comma_assignment)) nothing)
+
+-- any x, and perhaps in s
+abbrev pub any_of : Text × (Text ⊎ Unit {0}) → Partner
+any_of (x, inl s) = partners.Member x s
+any_of (x, inr _) = partners.Any x
+
+abbrev pub partner_of : Unit {0} ⊎ ((Text × (Text ⊎ Unit {0})) ⊎ Text) → Partner
+partner_of (inl _) = partners.Home
+partner_of (inr (inl p)) = any_of p
+partner_of (inr (inr x)) = partners.Named x
+
+unfoldable pub partner : Reader Partner
+partner =
+    mapped partner_of (choice (part (codes "home")) nothing (choice (part (codes "any")) (both name (choice (part (codes "in")) name nothing)) name))
+
+abbrev pub option_of : {A : Type 0} → (A × Unit {0}) ⊎ Unit {0} → Option A
+option_of (inl p) = Some p.0
+option_of (inr _) = None
+
+unfoldable pub bound : Reader (Option Text)
+bound = mapped option_of (choice (part (codes "(")) (both name (word (codes ")"))) nothing)
+
+unfoldable pub value : Reader (Option Expr)
+value = mapped option_of (choice (part (codes "(")) (both expression (word (codes ")"))) nothing)
+
+-- a partner, ? or !, the message and what comes with it
+abbrev pub Meeting : Type 0 → Type 0
+Meeting A = Partner × (Unit {0} × (Text × A))
+
+abbrev pub action_of : Unit {0} ⊎ (Meeting (Option Text) ⊎ (Unit {0} × Meeting (Option Expr))) → GuardKind
+action_of (inl _) = action.Tau
+action_of (inr (inl p)) = action.Input p.0 p.1.1.0 p.1.1.1
+action_of (inr (inr q)) = action.Output q.1.0 q.1.1.1.0 q.1.1.1.1
+
+unfoldable pub input : Reader (Meeting (Option Text))
+input = both partner (both (word (codes "?")) (both name bound))
+
+unfoldable pub output : Reader (Meeting (Option Expr))
+output = both partner (both (word (codes "!")) (both name value))
+
+unfoldable pub guard_action : Reader GuardKind
+guard_action = mapped action_of (choice (item (codes "tau")) nothing (choice (item (codes "from")) input (both (token (item (codes "to"))) output)))
+
+abbrev pub guard_of : GuardKind × (List Atom × (List Assign × (Unit {0} × (Text × Unit {0})))) → Guard
+guard_of p = record { kind = p.0; conds = p.1.0; assigns = p.1.1.0; next = p.1.1.1.1.0 }
+
+unfoldable pub guard : Reader Guard
+guard = mapped guard_of (both guard_action (both conditions (both assignments (both (word (codes "goto")) (both name (token semicolon))))))
+
+abbrev pub guard_words : List Text
+guard_words = codes "tau" ∷ codes "from" ∷ codes "to" ∷ []
+
+abbrev pub state_of : Unit {0} × (Text × (Unit {0} × (List Guard × Unit {0}))) → State
+state_of p = record { name = p.1.0; guards = p.1.1.1.0 }
+
+unfoldable pub state : Reader State
+state = mapped state_of (both (token (item (codes "state"))) (both name (both (token opening) (both (many_at guard_words guard) (token closing)))))
+
+abbrev pub process_of : Unit {0} × (List Var × (Unit {0} × (Text × (Unit {0} × (List State × Unit {0}))))) → Process
+process_of p = record { vars = p.1.0; start = p.1.1.1.0; states = p.1.1.1.1.1.0 }
+
+unfoldable pub process : Reader Process
+process =
+    mapped process_of (both (token opening) (both (many_at (codes "var" ∷ []) variable) (both (token (item (codes "start")))
+    (both name (both (token semicolon) (both (many_at (codes "state" ∷ []) state) (token closing)))))))
+
+abbrev pub protocol_of : Unit {0} × (Text × (Unit {0} × (List Message × (Unit {0} × (Process × (Unit {0} × Process)))))) → Protocol
+protocol_of p = record { name = p.1.0; messages = p.1.1.1.0; home = p.1.1.1.1.1.0; remote = p.1.1.1.1.1.1.1 }
+
+unfoldable pub protocol : Reader Protocol
+protocol =
+    mapped protocol_of (both (token (item (codes "protocol"))) (both name (both (token semicolon) (both (many_at (codes "message" ∷ []) message)
+    (both (token (item (codes "home"))) (both process (both (token (item (codes "remote"))) process)))))))
+
+-- the protocol, and nothing behind it
+unfoldable pub file : Reader Protocol
+file = λ at. and_then (protocol at) (λ p new. if at_end new then Ok (p, new) else Err (line_at new))

@@ -1,0 +1,15 @@
+//! The grammar by recursive descent: each function takes what the reading rule of its name takes.
+
+mod assignment;
+mod condition;
+mod expression;
+mod guard;
+mod message;
+mod name;
+mod number;
+mod process;
+mod repeated;
+mod token;
+mod variable;
+
+pub use process::file;
