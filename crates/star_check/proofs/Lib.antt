@@ -1,0 +1,13 @@
+pub mod Clean
+pub mod Found
+pub mod SameTypes
+pub mod InRange
+pub mod ProperRules
+pub mod ProperBodies
+pub mod WellFormed
+pub mod OneMore
+pub mod Before
+pub mod Firsts
+pub mod Passing
+pub mod SmallNumbers
+pub mod NumberedForm

@@ -1,0 +1,4 @@
+pub mod Numbering
+pub mod Scopes
+pub mod Passes
+pub mod Tells
