@@ -1,0 +1,56 @@
+//! The sink of a real run: standard output. It doesn't tell what it took.
+
+ghost use Rattle.std.specs.Prelude.{◌≡◌, ◌≤◌, length, IfOk, None};
+
+use crate::errors::ErrorCount;
+use rv_base::{Sink, WriteAnswer};
+use std::io;
+use std::io::{ErrorKind, Stdout, Write};
+
+/// Standard output, which is flushed at each write.
+#[derive(Drop)]
+pub struct StdoutSink {
+    stdout: Stdout,
+    errors: ErrorCount,
+}
+
+impl StdoutSink {
+    pub fn new(rt: &HostRuntime) -> StdoutSink {
+        StdoutSink {
+            stdout: rt.stdout(),
+            errors: ErrorCount { count: 0 },
+        }
+    }
+
+    // Writes and flushes. A write that takes nothing is an error.
+    fn write_some(&mut self, piece: &[u8]) -> io::Result<usize>
+        ensures bound { IfOk result (λ count. (1 ≤ count) × (count ≤ length piece.now)) }
+        ensures count { self.new.errors.count ≡ self.old.errors.count }
+    {
+        let count = self.stdout.write(piece)?;
+        self.stdout.flush()?;
+        if count == 0 {
+            return Err(io::Error::from(ErrorKind::WriteZero));
+        }
+        Ok(count)
+    }
+}
+
+impl Sink for StdoutSink {
+    ghost taken = { λ _. None };
+
+    ghost faults = { λ sink. sink.errors.count };
+
+    fn write(&mut self, piece: &[u8]) -> WriteAnswer {
+        match self.write_some(piece) {
+            Ok(count) => WriteAnswer::Took(count),
+            Err(error) => {
+                if self.errors.counts(&error) {
+                    WriteAnswer::Failed
+                } else {
+                    WriteAnswer::NoMemory
+                }
+            }
+        }
+    }
+}

@@ -1,0 +1,4 @@
+pub mod FirstFault
+pub mod OneVerdict
+pub mod Finished
+pub mod EveryRun

@@ -1,0 +1,26 @@
+-- What reading the protocol file comes to.
+use Rattle.std.specs.Prelude.{◌≡◌, length, Option}
+use Rattle.std.specs.Io.KnownBytes.{IsAtEnd}
+use Rattle.proto_model.specs.Tokens.{Text}
+use Rattle.proto_model.specs.Spelled.{Spells}
+use Rattle.proto_model.specs.Faults.{item_codes}
+use Rattle.proto_model.specs.declared.protocol.Protocol.{Protocol}
+use Rattle.protocol_reader.specs.Answer.{IsSpelled}
+use Rattle.rvc_top.specs.Verdict.{Refused as IsRefused}
+use Rattle.rvc_top.specs.declared.file.FileRead.{FileRead}
+use Rattle.rvc_top.specs.declared.file.FileRead.TheVariants.{Spelled, Refused}
+
+-- The file spells what is read and nothing else, or is refused with this text.
+abbrev pub ReadsFile : Text → FileRead → Type 0
+ReadsFile file (Spelled s) = IsSpelled file s × ((p : Protocol) → Spells file p → s.protocol ≡ p)
+ReadsFile file (Refused text) = IsRefused file text.items
+
+-- each item of the protocol that is read has a line
+abbrev pub HasLines : FileRead → Type 0
+HasLines (Spelled s) = length s.lines ≡ length (item_codes s.protocol)
+HasLines (Refused text) = Unit {0}
+
+-- a file that is not refused was read to its end
+abbrev pub EndsFile : Option Text → FileRead → Type 0
+EndsFile left (Spelled s) = IsAtEnd left
+EndsFile left (Refused text) = Unit {0}

@@ -1,0 +1,5 @@
+pub mod Words
+pub mod Verdict
+pub mod Endings
+pub mod FileRead
+pub mod Reply

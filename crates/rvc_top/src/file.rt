@@ -1,0 +1,68 @@
+//! The protocol file, read to its end and as the protocol that it spells, or refused.
+
+ghost use Rattle.std.specs.Prelude.{◌≡◌, IfOk, IfSome};
+ghost use Rattle.rv_base.specs.Whole.{TakesAtMost};
+ghost use Rattle.rvc_top.specs.Verdict.{too_long_text, fault_text};
+ghost use Rattle.rvc_top.specs.FileRead.{ReadsFile, HasLines, EndsFile};
+ghost use Rattle.rvc_top.specs.Reply.{Counts};
+
+use crate::reply::Fault;
+use protocol_reader::{ReadError, Spelled, read};
+use rv_base::{Gathered, NoMemory, Source, read_whole};
+use std::alloc::Global;
+
+// The code of a file that spells no protocol.
+const SYNTAX: u8 = 1;
+
+/// What reading the protocol file came to.
+#[derive(Debug, Drop)]
+pub enum FileRead {
+    /// It spells this protocol.
+    Spelled(Spelled),
+    /// It is refused, and this text says why.
+    Refused(Vec<u8>),
+}
+
+/// Reads the protocol file to its end, or to one byte past the limit of a file.
+pub fn read_file<P: Source>(alloc: Global, protocol: &mut P) -> Result<FileRead, Fault>
+    ensures bytes { IfSome (P.left protocol.old) (λ file. IfOk result (ReadsFile file)) }
+    ensures lines { IfOk result HasLines }
+    ensures end { IfOk result (EndsFile (P.left protocol.new)) }
+    ensures taken { TakesAtMost 65537 (P.left protocol.old) (P.left protocol.new) }
+    ensures cause { Counts (P.faults protocol.old) (P.faults protocol.new) result }
+{
+    match read_whole(alloc, protocol) {
+        Gathered::Whole(bytes) => Ok(file_of(alloc, &bytes)?),
+        Gathered::TooLong => Ok(FileRead::Refused(too_long(alloc)?)),
+        Gathered::Failed => Err(Fault::Read),
+        Gathered::NoMemory => Err(Fault::NoMemory),
+    }
+}
+
+// What the bytes of the file are.
+fn file_of(alloc: Global, bytes: &[u8]) -> Result<FileRead, NoMemory>
+    ensures reads { IfOk result (ReadsFile bytes.now) }
+    ensures lines { IfOk result HasLines }
+{
+    match read(alloc, bytes) {
+        Ok(spelled) => Ok(FileRead::Spelled(spelled)),
+        Err(ReadError::Syntax { line }) => Ok(FileRead::Refused(fault_on(alloc, line, SYNTAX)?)),
+        Err(ReadError::TooLong) => Ok(FileRead::Refused(too_long(alloc)?)),
+        Err(ReadError::NoMemory) => Err(NoMemory),
+    }
+}
+
+/// The text for a file with a fault of this code on this line.
+pub fn fault_on(alloc: Global, line: u32, code: u8) -> Result<Vec<u8>, NoMemory>
+    ensures { IfOk result (λ text. text.items ≡ fault_text line code) }
+{
+    let text = format!(in alloc; "error file line {line} code {code}\n")?;
+    Ok(text.into_bytes())
+}
+
+// The text for a file with more bytes than a file may have.
+fn too_long(alloc: Global) -> Result<Vec<u8>, NoMemory>
+    ensures { IfOk result (λ text. text.items ≡ too_long_text) }
+{
+    Ok(b"error file too long\n".to_vec(alloc)?)
+}

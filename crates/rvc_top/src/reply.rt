@@ -1,0 +1,64 @@
+//! A text to be written, and how a run ends with it.
+
+ghost use Rattle.std.specs.Prelude.{◌≡◌, ◌≤◌};
+ghost use Rattle.std.specs.Result.{ForOk};
+ghost use Rattle.rv_base.specs.Outside.{Rose};
+ghost use Rattle.rvc_top.specs.Endings.{IsDecided};
+ghost use Rattle.rvc_top.specs.Reply.{Delivers, Finishes};
+ghost use Rattle.rvc_top.specs.declared.reply.Fault.TheVariants as fault;
+
+use crate::Status;
+use rv_base::{NoMemory, Sink, Wrote, write_whole};
+
+/// A text to be written, and how the run ends once it is.
+#[derive(Debug, Drop)]
+pub struct Reply {
+    pub status: Status,
+    pub text: Vec<u8>,
+}
+
+/// Why there is no reply.
+#[derive(Clone, Copy, Debug, PartialEq, Eq, Drop)]
+pub enum Fault {
+    /// A source failed.
+    Read,
+    /// There is no memory, or a source had none for a read.
+    NoMemory,
+}
+
+impl From<NoMemory> for Fault {
+    ghost from_gives = { λ _ e. e ≡ fault.NoMemory };
+
+    fn from(_: NoMemory) -> Fault {
+        Fault::NoMemory
+    }
+}
+
+/// Writes a text, and answers `status`; or writes a part of it, and answers what stopped the
+/// writing.
+pub fn deliver<O: Sink>(out: &mut O, status: Status, text: &[u8]) -> Status
+    requires { IsDecided status }
+    ensures bytes { Delivers (O.taken out.old) (O.taken out.new) text.now status result }
+    ensures cause { result ≡ Status.WriteFault → Rose (O.faults out.old) (O.faults out.new) }
+    ensures count { O.faults out.old ≤ O.faults out.new }
+{
+    match write_whole(out, text) {
+        Wrote::Whole => status,
+        Wrote::Failed => Status::WriteFault,
+        Wrote::NoMemory => Status::NoMemory,
+    }
+}
+
+/// Writes the reply, and answers how the run ends. Where there is none, nothing is written.
+pub fn finish<O: Sink>(out: &mut O, reply: Result<Reply, Fault>) -> Status
+    requires { ForOk reply (λ r. IsDecided r.status) }
+    ensures bytes { Finishes (O.taken out.old) (O.taken out.new) reply result }
+    ensures cause { result ≡ Status.WriteFault → Rose (O.faults out.old) (O.faults out.new) }
+    ensures count { O.faults out.old ≤ O.faults out.new }
+{
+    match reply {
+        Ok(reply) => deliver(out, reply.status, &reply.text),
+        Err(Fault::Read) => Status::ReadFault,
+        Err(Fault::NoMemory) => Status::NoMemory,
+    }
+}
