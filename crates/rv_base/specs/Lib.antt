@@ -4,3 +4,5 @@ pub mod Calls
 pub mod Supply
 pub mod Store
 pub mod Whole
+pub mod Words
+pub mod Numbers

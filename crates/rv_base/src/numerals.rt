@@ -1,0 +1,58 @@
+//! Numbers read from decimal text.
+
+ghost use Rattle.std.specs.Prelude.{◌≡◌, ◌↔◌, IsTrue};
+ghost use Rattle.rv_base.specs.Numbers.{ReadsNumber, number_of, LeadsWell};
+
+// Whether a digit stands first, and no zero before others.
+fn leads_well(text: &[u8]) -> bool
+    ensures { IsTrue result ↔ LeadsWell text.now }
+{
+    matches!(text, [b'0'] | [b'1'..=b'9', ..])
+}
+
+// The number whose decimal text the bytes are, whatever its size.
+fn number_written(text: &[u8]) -> Option<u64>
+    ensures { ReadsNumber text.now u64.MAX result }
+{
+    if !leads_well(text) {
+        return None;
+    }
+    match std::str::from_utf8(text) {
+        Ok(digits) => digits.parse().ok(),
+        Err(_) => None,
+    }
+}
+
+/// The number whose decimal text the bytes are, without leading zeros, where it is at most `most`.
+/// `None` where they are the decimal text of no such number. Takes no memory.
+pub fn read_number(text: &[u8], most: u64) -> Option<u64>
+    ensures reads { ReadsNumber text.now most result }
+    ensures value { result ≡ number_of text.now most }
+{
+    number_written(text).filter(|number| *number <= most)
+}
+
+#[cfg(test)]
+mod tests {
+    use super::*;
+    use std::test::Fail;
+
+    #[test]
+    fn only_a_decimal_text_within_the_bound_is_read(rt: HostRuntime) -> Result<(), Fail> {
+        let cases: [(&[u8], u64, Option<u64>); 9] = [
+            (b"0", 0, Some(0)),
+            (b"99999", 99_999, Some(99_999)),
+            (b"18446744073709551615", u64::MAX, Some(u64::MAX)),
+            (b"18446744073709551616", u64::MAX, None),
+            (b"65", 64, None),
+            (b"02", 64, None),
+            (b"", 64, None),
+            (b"+1", 64, None),
+            (b"1\xb2", 64, None),
+        ];
+        for (text, most, number) in cases {
+            assert_eq!(rt; read_number(text, most), number);
+        }
+        Ok(())
+    }
+}
