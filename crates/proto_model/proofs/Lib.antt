@@ -1,3 +1,11 @@
 pub mod LaidMarks
 pub mod LaidOutSpells
 pub mod Writing
+pub mod NodeBits
+pub mod VarsPlaces
+pub mod Elements
+pub mod TypedValues
+pub mod TypedRules
+pub mod Steps
+pub mod Continuing
+pub mod KeptConfig

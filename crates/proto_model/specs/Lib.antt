@@ -15,3 +15,12 @@ pub mod Numbered
 pub mod RuleTypes
 pub mod Proper
 pub mod Marks
+pub mod NodeSets
+pub mod Values
+pub mod ValueTypes
+pub mod Filled
+pub mod Rendezvous
+pub mod RendezvousNext
+pub mod Pairs
+pub mod Texts
+pub mod Continued

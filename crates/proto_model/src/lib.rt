@@ -1,19 +1,28 @@
-//! What a protocol is: its named form, as a file gives it, and the definitions of a file's tokens,
-//! of the grammar and of the laid-out text (`specs/`).
+//! What a protocol is and what it means. The named form is as a file gives it; the numbered form is the
+//! one that is computed with. `specs/` has the definitions of a file's tokens, of the grammar and of the
+//! laid-out text, of faults, of values and of the rendezvous meaning, and of requests and their replies.
 #![tactic(auto)]
 
 mod copies;
 mod guard;
 mod layout;
+mod mode;
 mod name;
 mod numbered;
 mod protocol;
+mod rendezvous;
+mod texts;
+mod values;
 
 pub use guard::{Assign, Atom, Expr, Guard, GuardKind, Partner, Rel, Term};
 pub use layout::print;
+pub use mode::Mode;
 pub use name::Name;
 pub use numbered::{
     Body, MessageInfo, Rule, RuleAssign, RuleAtom, RuleExpr, RuleKind, RulePartner, RuleTerm, Side,
     StateInfo, Value, ValueType, VarInfo,
 };
 pub use protocol::{Carry, Initial, Message, Process, Protocol, State, Var, VarKind};
+pub use rendezvous::{Event, Part, RvConfig};
+pub use texts::{event_text, message_text, rv_line, vars_text};
+pub use values::{Vars, complete, eval, first_vars, guard_open, is_target, send_value, targets};

@@ -1,0 +1,199 @@
+//! The pieces of the texts. Each call is handed what came of the ones before it, appends its piece
+//! unless memory ran out there, and answers what came of them all.
+
+ghost use Rattle.std.specs.Prelude.{◌≡◌, ◌<◌, length, decimal, if◌then◌else◌};
+ghost use Rattle.proto_model.specs.Continued.{Continues};
+ghost use Rattle.proto_model.specs.Texts as texts;
+
+use crate::numbered::{Body, MessageInfo, Value, VarInfo};
+use crate::protocol::Carry;
+use crate::rendezvous::{Event, Part};
+use crate::values::{Vars, has_node};
+use itoa::Buffer;
+use rv_base::NoMemory;
+
+type Put = Result<(), NoMemory>;
+
+fn put(out: &mut Vec<u8>, so_far: Put, text: &[u8]) -> Put
+    ensures { Continues text.now so_far out.old.items result out.new.items }
+{
+    if so_far.is_err() {
+        return so_far;
+    }
+    out.extend_from_slice(text).map_err(NoMemory::from)
+}
+
+fn put_number(out: &mut Vec<u8>, so_far: Put, number: u32) -> Put
+    ensures { Continues (decimal number) so_far out.old.items result out.new.items }
+{
+    put(out, so_far, Buffer::new().format(number).as_bytes())
+}
+
+/// What stands before a member of a set.
+fn separator(first: bool) -> &'static [u8]
+    ensures { result.now ≡ texts.separator first }
+{
+    if first { b"" } else { b"," }
+}
+
+/// A member of a set, the first or a later one.
+fn put_member(out: &mut Vec<u8>, so_far: Put, first: bool, node: u8) -> Put
+    ensures { Continues (texts.member_text first node) so_far out.old.items result out.new.items }
+{
+    let so_far = put(out, so_far, separator(first));
+    put_number(out, so_far, u32::from(node))
+}
+
+fn put_members(out: &mut Vec<u8>, mut so_far: Put, set: u64) -> Put
+    ensures { Continues (texts.members_text set) so_far out.old.items result out.new.items }
+{
+    let mut first = true;
+    for node in 0..64 {
+        if has_node(set, node) {
+            so_far = put_member(out, so_far, first, node);
+            first = false;
+        }
+    }
+    so_far
+}
+
+fn put_value(out: &mut Vec<u8>, so_far: Put, value: Value) -> Put
+    ensures { Continues (texts.value_text value) so_far out.old.items result out.new.items }
+{
+    match value {
+        Value::Unit => so_far,
+        Value::Int(number) => put_number(out, so_far, u32::from(number)),
+        Value::Nowhere => put(out, so_far, b"none"),
+        Value::Node(node) => {
+            let so_far = put(out, so_far, b"#");
+            put_number(out, so_far, u32::from(node))
+        }
+        Value::Set(set) => {
+            let so_far = put(out, so_far, b"{");
+            let so_far = put_members(out, so_far, set);
+            put(out, so_far, b"}")
+        }
+    }
+}
+
+/// The value in brackets, where the message carries one.
+fn put_carried(out: &mut Vec<u8>, so_far: Put, carries: Carry, value: Value) -> Put
+    ensures { Continues (texts.carried_text carries value) so_far out.old.items result out.new.items }
+{
+    match carries {
+        Carry::Nothing => so_far,
+        Carry::Int(_) | Carry::Node | Carry::Set => {
+            let so_far = put(out, so_far, b"(");
+            let so_far = put_value(out, so_far, value);
+            put(out, so_far, b")")
+        }
+    }
+}
+
+pub(super) fn put_message(
+    out: &mut Vec<u8>,
+    so_far: Put,
+    message: &MessageInfo,
+    value: Value,
+) -> Put
+    ensures { Continues (texts.message_text message.now value) so_far out.old.items result out.new.items }
+{
+    let so_far = put(out, so_far, message.name.bytes());
+    put_carried(out, so_far, message.carries, value)
+}
+
+fn put_var(out: &mut Vec<u8>, so_far: Put, info: &VarInfo, value: Value) -> Put
+    ensures { Continues (texts.var_text info.now value) so_far out.old.items result out.new.items }
+{
+    let so_far = put(out, so_far, b" ");
+    let so_far = put(out, so_far, info.name.bytes());
+    let so_far = put(out, so_far, b"=");
+    put_value(out, so_far, value)
+}
+
+pub(super) fn put_vars(out: &mut Vec<u8>, mut so_far: Put, infos: &[VarInfo], vars: &Vars) -> Put
+    requires { length vars.now ≡ length infos.now }
+    ensures { Continues (texts.vars_text infos.now vars.now) so_far out.old.items result out.new.items }
+{
+    for place in 0..vars.len() {
+        let value = vars.at(place).unwrap_or(Value::Unit);
+        so_far = put_var(out, so_far, &infos[place as usize], value);
+    }
+    so_far
+}
+
+/// What the line of the remote of this number, or of the home, begins with.
+fn put_process(out: &mut Vec<u8>, so_far: Put, remote: Option<u8>) -> Put
+    ensures { Continues (texts.process_text remote) so_far out.old.items result out.new.items }
+{
+    match remote {
+        None => put(out, so_far, b"  home "),
+        Some(remote) => {
+            let so_far = put(out, so_far, b"  remote ");
+            let so_far = put_number(out, so_far, u32::from(remote));
+            put(out, so_far, b" ")
+        }
+    }
+}
+
+/// The name of the state in which the process stands.
+fn state_name<'a>(body: &'a Body, part: &Part) -> &'a [u8]
+    requires { part.now.state < length body.now.states }
+    ensures { result.now ≡ texts.state_name body.now part.now }
+{
+    let state = &body.states.as_slice()[part.state as usize];
+    state.name.bytes()
+}
+
+pub(super) fn put_line(
+    out: &mut Vec<u8>,
+    so_far: Put,
+    body: &Body,
+    part: &Part,
+    remote: Option<u8>,
+) -> Put
+    requires state { part.now.state < length body.now.states }
+    requires vars { length part.now.vars ≡ length body.now.vars }
+    ensures { Continues (texts.rv_line body.now part.now remote) so_far out.old.items result out.new.items }
+{
+    let so_far = put_process(out, so_far, remote);
+    let so_far = put(out, so_far, state_name(body, part));
+    let so_far = put_vars(out, so_far, body.vars.as_slice(), &part.vars);
+    put(out, so_far, b"\n")
+}
+
+/// A space, and a number.
+fn put_argument(out: &mut Vec<u8>, so_far: Put, number: u32) -> Put
+    ensures { Continues (texts.argument number) so_far out.old.items result out.new.items }
+{
+    let so_far = put(out, so_far, b" ");
+    put_number(out, so_far, number)
+}
+
+pub(super) fn put_event(out: &mut Vec<u8>, so_far: Put, event: Event) -> Put
+    ensures { Continues (texts.event_text event) so_far out.old.items result out.new.items }
+{
+    match event {
+        Event::TauHome(rule) => {
+            let so_far = put(out, so_far, b"tau home");
+            put_argument(out, so_far, rule)
+        }
+        Event::TauRemote(remote, rule) => {
+            let so_far = put(out, so_far, b"tau");
+            let so_far = put_argument(out, so_far, remote);
+            put_argument(out, so_far, rule)
+        }
+        Event::Up(remote, input, output) => {
+            let so_far = put(out, so_far, b"up");
+            let so_far = put_argument(out, so_far, remote);
+            let so_far = put_argument(out, so_far, input);
+            put_argument(out, so_far, output)
+        }
+        Event::Down(remote, output, input) => {
+            let so_far = put(out, so_far, b"down");
+            let so_far = put_argument(out, so_far, remote);
+            let so_far = put_argument(out, so_far, output);
+            put_argument(out, so_far, input)
+        }
+    }
+}

@@ -1,0 +1,14 @@
+//! The values that rules compute with. No call here takes memory.
+
+mod completing;
+mod evaluation;
+mod node_sets;
+mod vars;
+
+pub use completing::{complete, first_vars};
+pub use evaluation::{eval, guard_open, is_target, send_value, targets};
+pub(crate) use node_sets::has_node;
+pub use vars::Vars;
+
+#[cfg(test)]
+mod tests;
