@@ -1,0 +1,19 @@
+//! The rendezvous meaning of a protocol: a machine that takes one event at a time.
+//!
+//! The home and n remotes stand in states. An event is a local step of one process, or a rendezvous, in
+//! which the home and a remote move together; no message is ever in transit. Whatever is said of the
+//! protocol when its messages travel is measured against this machine.
+//!
+//! - `moves`: where the processes that an event names stand after it.
+//! - `machine`: the machine, which stands in a configuration of its protocol at each moment.
+//! - `laws`: that the step as a relation and the step as it is computed are the same.
+//!
+//! What a step is, as a relation between two configurations, is defined in `proto_model`.
+#![tactic(auto)]
+
+mod laws;
+mod machine;
+mod moves;
+
+pub use laws::next_is_the_step;
+pub use machine::RvMachine;
