@@ -1,0 +1,68 @@
+-- What a line of a schedule of events says.
+use Rattle.std.specs.Prelude.{◌≡◌, ◌≢◌, ℕ, List, [], ◌∷◌, Option, Some, None, if◌then◌else◌, bytes_eq, codes}
+use Rattle.std.specs.Option.{option_map, option_and_then}
+use Rattle.rv_base.specs.Words.{words}
+use Rattle.rv_base.specs.Numbers.{number_of}
+use Rattle.proto_model.specs.Tokens.{Text, IsNumber}
+use Rattle.proto_model.specs.Texts.{event_words}
+use Rattle.proto_model.specs.declared.rendezvous.Event.{Event}
+use Rattle.proto_model.specs.declared.rendezvous.Event.TheVariants as event
+use Rattle.schedule_replay.specs.declared.events.EventLine.{EventLine}
+use Rattle.schedule_replay.specs.declared.events.EventLine.TheVariants as line
+
+-- Each number of the event is one that a line can write: its decimal text has at most five digits.
+abbrev pub HasNumbers : Event → Type 0
+HasNumbers (event.TauHome g) = IsNumber g
+HasNumbers (event.TauRemote j g) = IsNumber j × IsNumber g
+HasNumbers (event.Up j h r) = IsNumber j × IsNumber h × IsNumber r
+HasNumbers (event.Down j h r) = IsNumber j × IsNumber h × IsNumber r
+
+-- What the words of a line say. A line without words is blank. A line says an event where its words
+-- are those of the event, whose numbers are ones that a line can write. Each other line is malformed.
+abbrev pub Says : List Text → EventLine → Type 0
+Says ws line.Blank = ws ≡ []
+Says ws (line.Event e) = (ws ≡ event_words e) × HasNumbers e
+Says ws line.Bad = (ws ≢ []) × ((e : Event) → HasNumbers e → ws ≢ event_words e)
+
+-- the number that the word writes
+abbrev pub number : Text → Option ℕ
+number word = number_of word 99999
+
+-- `tau` and these two words
+abbrev pub tau_event : Text → Text → Option Event
+tau_event who g =
+    if bytes_eq who (codes "home")
+    then option_map (λ rule. event.TauHome rule) (number g)
+    else option_and_then (λ j. option_map (λ rule. event.TauRemote j rule) (number g)) (number who)
+
+-- the event of this name, in which the home and a remote meet
+abbrev pub meeting : Text → ℕ → ℕ → ℕ → Option Event
+meeting name j h r =
+    if bytes_eq name (codes "up") then Some (event.Up j h r) else (if bytes_eq name (codes "down") then Some (event.Down j h r) else None)
+
+-- `up` or `down`, with these three words
+abbrev pub meeting_event : Text → Text → Text → Text → Option Event
+meeting_event name j h r =
+    option_and_then (λ remote. option_and_then (λ home_rule. option_and_then (λ remote_rule. meeting name remote home_rule remote_rule) (number r)) (number h)) (number j)
+
+-- the event that the words say
+abbrev pub event_of : List Text → Option Event
+event_of [] = None
+event_of (name ∷ []) = None
+event_of (name ∷ second ∷ []) = None
+event_of (name ∷ second ∷ third ∷ []) = if bytes_eq name (codes "tau") then tau_event second third else None
+event_of (name ∷ second ∷ third ∷ fourth ∷ []) = meeting_event name second third fourth
+event_of (name ∷ second ∷ third ∷ fourth ∷ w ∷ ws) = None
+
+-- the words say this event, or are malformed
+abbrev pub said : Option Event → EventLine
+said (Some e) = line.Event e
+said None = line.Bad
+
+abbrev pub line_of_words : List Text → EventLine
+line_of_words [] = line.Blank
+line_of_words (w ∷ ws) = said (event_of (w ∷ ws))
+
+-- what the line says, computed
+abbrev pub event_line : List ℕ → EventLine
+event_line bytes = line_of_words (words bytes)

@@ -1,0 +1,11 @@
+pub mod Lines
+pub mod Reading
+pub mod NextLine
+pub mod Cutter
+pub mod EventLines
+pub mod RvTrace
+pub mod Play
+pub mod Scheduled
+pub mod Trace
+pub mod Replayed
+pub mod Turns

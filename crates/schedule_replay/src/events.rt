@@ -1,0 +1,134 @@
+//! A line of a schedule of events.
+
+ghost use Rattle.std.specs.Prelude.{◌≡◌};
+ghost use Rattle.rv_base.specs.Words.{words};
+ghost use Rattle.schedule_replay.specs.EventLines as events;
+ghost use Rattle.schedule_replay.specs.EventLines.{Says, event_line};
+
+use proto_model::Event;
+use rv_base::{read_number, word_at};
+
+// The greatest number that a line can write.
+const NUMBER_LIMIT: u64 = 99_999;
+
+/// What a line of a schedule of events says.
+#[derive(Clone, Copy, Debug, PartialEq, Eq)]
+pub enum EventLine {
+    /// The line has no words.
+    Blank,
+    /// The line's words are those of this event.
+    Event(Event),
+    /// The line is malformed: it has words, and they are those of no event.
+    Bad,
+}
+
+// The number that the word writes.
+fn number(word: &[u8]) -> Option<u32>
+    ensures { result ≡ events.number word.now }
+{
+    match read_number(word, NUMBER_LIMIT) {
+        Some(number) => Some(number as u32),
+        None => None,
+    }
+}
+
+// The event of `tau` and these two words.
+fn tau_event(who: &[u8], rule: &[u8]) -> Option<Event>
+    ensures { result ≡ events.tau_event who.now rule.now }
+{
+    let rule = number(rule)?;
+    if who == b"home".as_slice() {
+        return Some(Event::TauHome(rule));
+    }
+    Some(Event::TauRemote(number(who)?, rule))
+}
+
+// The event of the name, `up` or `down`, and these three words.
+fn meeting_event(name: &[u8], remote: &[u8], home_rule: &[u8], remote_rule: &[u8]) -> Option<Event>
+    ensures { result ≡ events.meeting_event name.now remote.now home_rule.now remote_rule.now }
+{
+    let (remote, home_rule, remote_rule) = (
+        number(remote)?,
+        number(home_rule)?,
+        number(remote_rule)?,
+    );
+    if name == b"up".as_slice() {
+        return Some(Event::Up(remote, home_rule, remote_rule));
+    }
+    if name == b"down".as_slice() {
+        return Some(Event::Down(remote, home_rule, remote_rule));
+    }
+    None
+}
+
+// The event that the line's words say.
+fn event_of(line: &[u8]) -> Option<Event>
+    ensures { result ≡ events.event_of (words line.now) }
+{
+    let (name, second, third) = (word_at(line, 0)?, word_at(line, 1)?, word_at(line, 2)?);
+    let Some(fourth) = word_at(line, 3) else {
+        return if name == b"tau".as_slice() {
+            tau_event(second, third)
+        } else {
+            None
+        };
+    };
+    if word_at(line, 4).is_some() {
+        return None;
+    }
+    meeting_event(name, second, third, fourth)
+}
+
+/// Reads a line of a schedule of events, without its LF and whatever its length: of what stands
+/// before the first `//`, cut into words, `tau home G`, `tau J G`, `up J H R` or `down J H R`, with
+/// numbers from 0 to 99,999 without leading zeros. Takes no memory.
+pub fn read_event_line(line: &[u8]) -> EventLine
+    ensures says { Says (words line.now) result }
+    ensures value { result ≡ event_line line.now }
+{
+    if word_at(line, 0).is_none() {
+        return EventLine::Blank;
+    }
+    match event_of(line) {
+        Some(event) => EventLine::Event(event),
+        None => EventLine::Bad,
+    }
+}
+
+#[cfg(test)]
+mod tests {
+    use super::*;
+    use std::test::Fail;
+
+    #[test]
+    fn each_form_is_read_and_no_other(rt: HostRuntime) -> Result<(), Fail> {
+        let cases: [(&[u8], EventLine); 16] = [
+            (b"tau home 15", EventLine::Event(Event::TauHome(15))),
+            (
+                b"\ttau 0  99999\r",
+                EventLine::Event(Event::TauRemote(0, 99_999)),
+            ),
+            (b"up 0 1 2//3", EventLine::Event(Event::Up(0, 1, 2))),
+            (
+                b"down 63 0 0 // up",
+                EventLine::Event(Event::Down(63, 0, 0)),
+            ),
+            (b"", EventLine::Blank),
+            (b" \t\r// up 0 1 2", EventLine::Blank),
+            (b"up 0 1", EventLine::Bad),
+            (b"up 0 1 2 3", EventLine::Bad),
+            (b"up 0 1 02", EventLine::Bad),
+            (b"up 0 1 100000", EventLine::Bad),
+            (b"up 0 1 /2", EventLine::Bad),
+            (b"tau home", EventLine::Bad),
+            (b"tau home home", EventLine::Bad),
+            (b"home tau 1", EventLine::Bad),
+            (b"tau 0 0 0", EventLine::Bad),
+            (b"up\x0b0 1 2", EventLine::Bad),
+        ];
+        for (line, says) in cases {
+            assert_eq!(rt; read_event_line(line), says);
+        }
+        Ok(())
+    }
+}
