@@ -1,0 +1,9 @@
+pub mod Apart
+pub mod Finding
+pub mod FlatFrom
+pub mod Made
+pub mod NextsTold
+pub mod RowsApart
+pub mod SameKey
+pub mod Told
+pub mod WithNexts

@@ -1,0 +1,6 @@
+pub mod Rows
+pub mod Sound
+pub mod OneRow
+pub mod Keys
+pub mod Indexed
+pub mod Bare
