@@ -1,0 +1,88 @@
+//! The rows of local steps and of outputs, which are alike in the controllers of both sides.
+
+ghost use Rattle.std.specs.Prelude.{◌≡◌};
+ghost use Rattle.controller_table.specs.Rows as rows;
+
+use controller_table::{Does, GuardId, Place, Puts, Row, Trigger};
+use proto_model::{Body, Rule};
+
+/// The state to which the first rule of the state at this place goes.
+fn next_of_first(body: &Body, state: u8) -> u8
+    ensures { result ≡ rows.next_of_first body.now state }
+{
+    match body.states.as_slice().get(state as usize) {
+        Some(info) => match info.rules.as_slice().first() {
+            Some(rule) => rule.next,
+            None => 0,
+        },
+        None => 0,
+    }
+}
+
+/// The row of a local step.
+pub fn tau_row(guard: GuardId, rule: &Rule) -> Row
+    ensures { result ≡ rows.tau_row guard rule.now }
+{
+    Row {
+        at: Place::Comm(guard.state),
+        on: Trigger::Tau(guard.guard),
+        puts: Puts::Nothing,
+        does: Does::One(guard),
+        to: Place::Comm(rule.next),
+    }
+}
+
+/// The row by which an output sends the message at this place.
+pub fn send_row(guard: GuardId, message: u8) -> Row
+    ensures { result ≡ rows.send_row guard message }
+{
+    Row {
+        at: Place::Comm(guard.state),
+        on: Trigger::Send(guard.guard),
+        puts: Puts::Request(message),
+        does: Does::Nothing,
+        to: Place::Trans(guard),
+    }
+}
+
+/// The row of the answer to the request of an output: an ack, or the reply of its message.
+pub fn answered_row(body: &Body, guard: GuardId, rule: &Rule, reply: Option<u8>) -> Row
+    ensures { result ≡ rows.answered_row body.now guard rule.now reply }
+{
+    match reply {
+        None => Row {
+            at: Place::Trans(guard),
+            on: Trigger::GotAck,
+            puts: Puts::Nothing,
+            does: Does::One(guard),
+            to: Place::Comm(rule.next),
+        },
+        Some(reply) => Row {
+            at: Place::Trans(guard),
+            on: Trigger::GotReply(reply),
+            puts: Puts::Nothing,
+            does: Does::Two(guard, only_guard(rule.next)),
+            to: Place::Comm(next_of_first(body, rule.next)),
+        },
+    }
+}
+
+/// The first guard of a state, which is its only one where it sends or awaits a reply.
+pub(crate) fn only_guard(state: u8) -> GuardId
+    ensures { result ≡ rows.guard_id state 0 }
+{
+    GuardId { state, guard: 0 }
+}
+
+/// The row by which a process, whose request was not granted, stands again where it was.
+pub fn back_row(guard: GuardId, on: Trigger) -> Row
+    ensures { result ≡ rows.back_row guard on }
+{
+    Row {
+        at: Place::Trans(guard),
+        on,
+        puts: Puts::Nothing,
+        does: Does::Nothing,
+        to: Place::Comm(guard.state),
+    }
+}

@@ -1,0 +1,17 @@
+//! The rows of the controller of a remote, and the rows that both controllers have.
+//!
+//! - `replies`: the reply of each message.
+//! - `paired_body`: a body beside the messages of its protocol and their replies.
+//! - `both_sides`: the rows of local steps and of outputs, which are alike in both controllers.
+//! - `remote`: the rows of a remote.
+#![tactic(auto)]
+
+mod both_sides;
+mod paired_body;
+mod remote;
+mod replies;
+
+pub use both_sides::{answered_row, back_row, send_row, tau_row};
+pub use paired_body::PairedBody;
+pub use remote::remote_rows;
+pub use replies::all_replies;
