@@ -1,0 +1,3 @@
+pub mod AsciiNames
+pub mod OneMore
+pub mod NoFloat

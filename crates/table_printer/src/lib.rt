@@ -1,0 +1,17 @@
+//! The two forms in which a table is written: as text, and as JSON.
+//!
+//! - `names`: the names of states and messages, by their places.
+//! - `rows`: the five texts of a row, which both forms show.
+//! - `text`: the table as lines of text.
+//! - `json`: the table as JSON.
+//!
+//! What each of them is, to the byte, is defined in `specs/`.
+#![tactic(auto)]
+
+mod json;
+mod names;
+mod rows;
+mod text;
+
+pub use json::table_json;
+pub use text::table_text;

@@ -1,0 +1,104 @@
+//! The five texts of a row.
+
+ghost use Rattle.std.specs.Prelude.{◌≡◌, string_bytes, IfOk};
+ghost use Rattle.table_printer.specs.RowText as texts;
+
+use crate::names::{message_name, state_name};
+use controller_table::{Does, GuardId, Place, Puts, Trigger};
+use proto_model::{Body, MessageInfo};
+use std::alloc::{AllocError, Global};
+
+/// The guard: the name of its state, `/` and its number.
+fn guard_text(alloc: Global, body: &Body, guard: GuardId) -> Result<String, AllocError>
+    ensures { IfOk result (λ t. string_bytes t ≡ texts.guard_text body.now guard) }
+{
+    let state = state_name(body, guard.state);
+    let number = guard.guard;
+    format!(in alloc; "{state}/{number}")
+}
+
+/// Where the row stands, or stands then.
+pub(crate) fn place_text(alloc: Global, body: &Body, place: Place) -> Result<String, AllocError>
+    ensures { IfOk result (λ t. string_bytes t ≡ texts.place_text body.now place) }
+{
+    match place {
+        Place::Comm(state) => String::from_str(alloc, state_name(body, state)),
+        Place::Trans(guard) => {
+            let mut text = guard_text(alloc, body, guard)?;
+            text.push_str("*")?;
+            Ok(text)
+        }
+        Place::Due(guard) => {
+            let mut text = guard_text(alloc, body, guard)?;
+            text.push_str("!")?;
+            Ok(text)
+        }
+    }
+}
+
+/// What makes the row move.
+pub(crate) fn trigger_text(
+    alloc: Global,
+    messages: &[MessageInfo],
+    trigger: Trigger,
+) -> Result<String, AllocError>
+    ensures { IfOk result (λ t. string_bytes t ≡ texts.trigger_text messages.now trigger) }
+{
+    match trigger {
+        Trigger::Tau(guard) => format!(in alloc; "tau {guard}"),
+        Trigger::Send(guard) => format!(in alloc; "send {guard}"),
+        Trigger::Pay(guard) => format!(in alloc; "pay {guard}"),
+        Trigger::Take(guard) => format!(in alloc; "take {guard}"),
+        Trigger::Answer(guard) => format!(in alloc; "answer {guard}"),
+        Trigger::AnswerNone => String::from_str(alloc, "answer none"),
+        Trigger::GotAck => String::from_str(alloc, "got ack"),
+        Trigger::GotNack => String::from_str(alloc, "got nack"),
+        Trigger::GotReply(message) => {
+            let name = message_name(messages, message);
+            format!(in alloc; "got reply {name}")
+        }
+        Trigger::GotRequest => String::from_str(alloc, "got request"),
+    }
+}
+
+/// What the row puts on a link, or owes.
+pub(crate) fn puts_text(
+    alloc: Global,
+    messages: &[MessageInfo],
+    puts: Puts,
+) -> Result<String, AllocError>
+    ensures { IfOk result (λ t. string_bytes t ≡ texts.puts_text messages.now puts) }
+{
+    match puts {
+        Puts::Nothing => String::from_str(alloc, "nothing"),
+        Puts::Request(message) => {
+            let name = message_name(messages, message);
+            format!(in alloc; "request {name}")
+        }
+        Puts::Ack => String::from_str(alloc, "ack"),
+        Puts::Nack => String::from_str(alloc, "nack"),
+        Puts::Reply(message) => {
+            let name = message_name(messages, message);
+            format!(in alloc; "reply {name}")
+        }
+        Puts::Owe(message) => {
+            let name = message_name(messages, message);
+            format!(in alloc; "owe {name}")
+        }
+    }
+}
+
+/// The guards that the row completes.
+pub(crate) fn does_text(alloc: Global, body: &Body, does: Does) -> Result<String, AllocError>
+    ensures { IfOk result (λ t. string_bytes t ≡ texts.does_text body.now does) }
+{
+    match does {
+        Does::Nothing => String::from_str(alloc, "none"),
+        Does::One(guard) => guard_text(alloc, body, guard),
+        Does::Two(first, second) => {
+            let first = guard_text(alloc, body, first)?;
+            let second = guard_text(alloc, body, second)?;
+            format!(in alloc; "{first} {second}")
+        }
+    }
+}
