@@ -1,0 +1,31 @@
+-- The list of the held requests, and what leaves it.
+use Rattle.std.specs.Prelude.{◌≢◌, ℕ, ◌-◌, ◌==◌, Bool, if◌then◌else◌, List, [], ◌∷◌, ◌++◌, All, length, take, slice_get, Option}
+use Rattle.std.specs.List.{find}
+use Rattle.slot_reserve.specs.declared.held.Held.{Held}
+
+-- This remote sent the request.
+abbrev pub is_from : ℕ → Held → Bool
+is_from from request = request.from == from
+
+-- The first request of this remote, if it has one.
+abbrev pub first_of : ℕ → List Held → Option Held
+first_of from held = find (is_from from) held
+
+-- This remote has no request among these.
+abbrev pub HasNone : ℕ → List Held → Type 0
+HasNone from held = All (λ request. request.from ≢ from) held
+
+-- The requests without the first one of this remote, the others in their order; all of them where it
+-- has none.
+abbrev pub without_first : ℕ → List Held → List Held
+without_first from [] = []
+without_first from (request ∷ held) =
+    if is_from from request then held else request ∷ without_first from held
+
+-- The last of the requests, if there is one.
+abbrev pub last_of : List Held → Option Held
+last_of held = slice_get held (length held - 1)
+
+-- The requests after the last one has made room for another one, which stands last.
+abbrev pub displaced : List Held → Held → List Held
+displaced held request = take (length held - 1) held ++ request ∷ []
