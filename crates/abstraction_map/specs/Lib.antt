@@ -1,0 +1,10 @@
+pub mod Abstraction
+pub mod Told
+pub mod WorkedCrossingMeans
+pub mod WorkedFullSlotMeans
+pub mod WorkedDownPairMeans
+pub mod WorkedThreeItemsMeans
+pub mod WorkedProgressKeptMeans
+pub mod WorkedProgressUsedMeans
+pub mod WorkedDisplacementMeans
+pub mod WorkedPlainMeans

@@ -1,0 +1,67 @@
+-- What is told of a step: the event behind it, or that it is a stutter, or that it is refused.
+use Rattle.std.specs.Prelude.{ℕ, Bool, true, false, Option, Some, None, slice_get}
+use Rattle.std.specs.Option.{option_map, option_and_then}
+use Rattle.proto_model.specs.Numbered.{NumberedProtocol}
+use Rattle.proto_model.specs.declared.mode.Mode.{Mode}
+use Rattle.proto_model.specs.declared.rendezvous.Event.{Event}
+use Rattle.proto_model.specs.declared.rendezvous.Event.TheVariants as event
+use Rattle.slot_reserve.specs.Requests.{first_of}
+use Rattle.async_shape.specs.Config.{Config, count_of, owed_to}
+use Rattle.async_shape.specs.Requests.{taking_guard}
+use Rattle.async_shape.specs.Next.{is_enabled}
+use Rattle.async_shape.specs.Guards.{answering_at}
+use Rattle.async_shape.specs.declared.config.HomePlace.{HomePlace}
+use Rattle.async_shape.specs.declared.config.HomePlace.TheVariants.{Idle, Waits}
+use Rattle.async_shape.specs.declared.step.Step.{Step}
+use Rattle.async_shape.specs.declared.step.Step.TheVariants as step
+use Rattle.abstraction_map.specs.declared.told.Told.{Told}
+use Rattle.abstraction_map.specs.declared.told.Told.TheVariants.{Refused, Stutter, Is}
+
+-- this event, or a stutter where there is none
+abbrev pub event_or_stutter : Option Event → Told
+event_or_stutter (Some e) = Is e
+event_or_stutter None = Stutter
+
+module _ (protocol : NumberedProtocol) (c : Config) where
+  -- HomeTake(j) by guard h: the home takes what remote j gives by its one guard.
+  abbrev pub take_event : ℕ → Option Event
+  take_event j = option_map (λ h. event.Up j h 0) (option_and_then (taking_guard (count_of c) protocol.home c.home) (first_of j c.held))
+
+  -- HomeSend(g, j) as the reply that is owed: remote j takes it by the one guard that awaits it. As a
+  -- request it is no event yet.
+  abbrev pub send_event : ℕ → ℕ → Option ℕ → Option Event
+  send_event g j (Some p) = Some (event.Down j g 0)
+  send_event g j None = None
+
+  -- RemoteAnswer(j) by guard r, where the home waits by h: the home's request is taken. By the shape, the
+  -- request in a slot is the one by which the home waits. Without such a guard the request is nacked, and
+  -- there is no event.
+  abbrev pub answer_event : ℕ → HomePlace → Option ℕ → Option Event
+  answer_event j (Idle state) r = None
+  answer_event j (Waits waiting) None = None
+  answer_event j (Waits waiting) (Some r) = Some (event.Down j waiting.by.guard r)
+
+  -- the number of the guard by which remote j answers
+  abbrev pub answering : ℕ → Option ℕ
+  answering j = option_and_then (λ remote. answering_at protocol.remote remote remote.place) (slice_get c.remotes j)
+
+  -- the event behind an enabled step; a step without one is a stutter
+  abbrev pub event_behind : Step → Option Event
+  event_behind (step.HomeTau g) = Some (event.TauHome g)
+  event_behind (step.HomeTake j) = take_event j
+  event_behind (step.HomeSend g j) = send_event g j (owed_to c.home j)
+  event_behind (step.HomeDrop j) = None
+  event_behind (step.RemoteTau j g) = Some (event.TauRemote j g)
+  event_behind (step.RemoteSend j) = None
+  event_behind (step.RemoteAnswer j) = answer_event j c.home.place (answering j)
+  event_behind (step.RemoteReply j) = Some (event.Up j 0 0)
+  event_behind (step.Up j) = None
+  event_behind (step.Down j) = None
+
+  abbrev pub told_if : Bool → Step → Told
+  told_if true s = event_or_stutter (event_behind s)
+  told_if false s = Refused
+
+-- what is told of a step in this configuration
+abbrev pub told : NumberedProtocol → Mode → ℕ → Config → Step → Told
+told protocol mode k c s = told_if protocol c (is_enabled protocol mode k c s) s
