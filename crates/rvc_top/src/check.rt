@@ -1,19 +1,17 @@
 //! `check`: whether the protocol of the file is well-formed, or where its first fault is.
 
-ghost use Rattle.std.specs.Prelude.{◌≡◌, length, IfOk, IfSome};
+ghost use Rattle.std.specs.Prelude.{◌≡◌, IfOk, IfSome};
 ghost use Rattle.std.specs.Io.KnownBytes.{IsAtEnd};
-ghost use Rattle.proto_model.specs.Faults.{item_codes};
 ghost use Rattle.rv_base.specs.Whole.{TakesAtMost};
 ghost use Rattle.rvc_top.specs.Endings.{IsFileEnd};
-ghost use Rattle.rvc_top.specs.Verdict.{CheckVerdict, Checked as IsChecked, ok_text};
+ghost use Rattle.rvc_top.specs.Verdict.{CheckVerdict, ok_text};
 ghost use Rattle.rvc_top.specs.Reply.{IsOnlyReply, Counts};
 
 use crate::Status;
-use crate::file::{FileRead, fault_on, read_file};
+use crate::checked_file::{CheckedFile, check_file};
 use crate::reply::{Fault, Reply};
-use protocol_reader::Spelled;
 use rv_base::{NoMemory, Source, put_number};
-use star_check::{CheckError, Checked, check};
+use star_check::Checked;
 use std::alloc::Global;
 
 /// What `check` replies to the protocol file: that its protocol is well-formed, the first fault, or
@@ -25,42 +23,21 @@ pub fn check_reply<P: Source>(alloc: Global, protocol: &mut P) -> Result<Reply, 
     ensures taken { TakesAtMost 65537 (P.left protocol.old) (P.left protocol.new) }
     ensures cause { Counts (P.faults protocol.old) (P.faults protocol.new) result }
 {
-    match read_file(alloc, protocol)? {
-        FileRead::Spelled(spelled) => Ok(checked(alloc, spelled)?),
-        FileRead::Refused(text) => Ok(Reply {
+    match check_file(alloc, protocol)? {
+        CheckedFile::WellFormed(checked) => Ok(Reply {
+            status: Status::Done,
+            text: accepted(alloc, &checked)?,
+        }),
+        CheckedFile::Refused(text) => Ok(Reply {
             status: Status::FileRefused,
             text,
         }),
     }
 }
 
-// The reply to a protocol whose items begin on these lines.
-fn checked(alloc: Global, spelled: Spelled) -> Result<Reply, NoMemory>
-    requires { length spelled.lines ≡ length (item_codes spelled.protocol) }
-    ensures said { IfOk result (λ reply. IsChecked spelled.protocol spelled.lines reply.status reply.text.items) }
-    ensures status { IfOk result (λ reply. IsFileEnd reply.status) }
-{
-    let Spelled { protocol, lines } = spelled;
-    match check(alloc, protocol) {
-        Ok(checked) => Ok(Reply {
-            status: Status::Done,
-            text: accepted(alloc, &checked)?,
-        }),
-        Err(CheckError::Refused(fault)) => {
-            let line = lines.as_slice()[fault.item as usize];
-            Ok(Reply {
-                status: Status::FileRefused,
-                text: fault_on(alloc, line, fault.code)?,
-            })
-        }
-        Err(CheckError::NoMemory) => Err(NoMemory),
-    }
-}
-
 // The text for a well-formed protocol.
 fn accepted(alloc: Global, checked: &Checked) -> Result<Vec<u8>, NoMemory>
-    ensures { IfOk result (λ text. text.items
-        ≡ ok_text checked.now.name (length checked.now.messages) (length checked.now.home.states) (length checked.now.remote.states)) }
+    ensures { IfOk result (λ text. text.items ≡ ok_text checked.now) }
 {
     let mut text = b"ok ".to_vec(alloc)?;
     text.extend_from_slice(checked.name().bytes())?;

@@ -3,16 +3,22 @@
 #![tactic(auto)]
 
 mod check;
+mod checked_file;
 mod command;
+mod example;
 mod file;
 mod laws;
 mod print;
+mod replay;
 mod reply;
+mod rv;
 mod status;
 mod steady;
+mod tables;
 mod top;
 
 pub use command::{Command, words_mean};
+pub use example::{Example, example_text};
 pub use laws::{every_run_is_decided, every_verdict_is_one};
 pub use status::Status;
 pub use steady::rvc_steady;

@@ -11,7 +11,8 @@ pub enum Status {
     /// The protocol file has more than 65,536 bytes, or it spells no protocol. The text that says so
     /// is written.
     FileRefused = 2,
-    /// The schedule has a line that is no step, or too many lines. No command reads a schedule yet.
+    /// The schedule has a malformed line, one of more than 256 bytes, or more than 1,000,000 lines. The
+    /// trace of the lines before is written, and the text that says so.
     ScheduleRefused = 3,
     /// A source that the command uses failed. Nothing is written after it.
     ReadFault = 4,

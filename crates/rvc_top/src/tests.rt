@@ -4,6 +4,8 @@ ghost use Rattle.std.specs.Prelude.{◌≤◌, None};
 
 mod cases;
 mod checks;
+mod rv;
+mod tables;
 mod texts;
 
 use crate::{Status, rvc, rvc_steady};

@@ -34,7 +34,7 @@ pub const SYNTAX_FAULTS: [(&[u8], u8); 21] = [
 ];
 
 // Words that no command has, or has in another form.
-pub const NO_FORM: [&[&str]; 18] = [
+pub const NO_FORM: [&[&str]; 24] = [
     &[],
     &["print"],
     &["print", "p", "p"],
@@ -47,10 +47,16 @@ pub const NO_FORM: [&[&str]; 18] = [
     &["run", "M", "2", "2", "fast"],
     &["example", "other"],
     &["check"],
-    &["rv", "p", "2"],
-    &["table", "p", "plain"],
-    &["json", "p", "plain"],
+    &["rv", "p"],
+    &["rv", "p", "2", "2"],
+    &["table", "p"],
+    &["table", "p", "fast"],
+    &["table", "p", "Plain"],
+    &["table", "p", "plain", "lean"],
+    &["json", "p"],
+    &["json", "lean", "p"],
+    &["example"],
+    &["example", "migratory", "lean"],
     &["run", "p", "1", "2", "plain"],
     &["drive", "p", "1", "2", "plain", "6", "7"],
-    &["example", "migratory"],
 ];
