@@ -169,17 +169,17 @@ fn each_write_may_fail(rt: HostRuntime) -> Result<(), Fail> {
     Ok(())
 }
 
-// A source of letters x that never ends.
+// A source of this byte that never ends.
 #[derive(Drop)]
-struct Letters;
+struct Endless(u8);
 
-impl Source for Letters {
+impl Source for Endless {
     ghost left = { λ _. None };
 
     ghost faults = { λ _. 0 };
 
     fn read(&mut self, into: &mut [u8]) -> ReadAnswer {
-        into.fill(b'x');
+        into.fill(self.0);
         ReadAnswer::Got(into.len())
     }
 }
@@ -188,7 +188,13 @@ impl Source for Letters {
 fn a_file_without_end_is_too_long(rt: HostRuntime) -> Result<(), Fail> {
     let words = words_of(&rt, &["print", "p"])?;
     let mut out = SteadySink::new(rt.alloc(), 7);
-    let status = rvc(rt.alloc(), &words, &mut Letters, &mut Letters, &mut out);
+    let status = rvc(
+        rt.alloc(),
+        &words,
+        &mut Endless(b'x'),
+        &mut Endless(b'x'),
+        &mut out,
+    );
     assert_eq!(rt; status, Status::FileRefused);
     assert_eq!(rt; out.taken(), b"error file too long\n".as_slice());
     Ok(())

@@ -3,7 +3,7 @@
 ghost use Rattle.std.specs.Prelude.{◌≤◌};
 
 use super::texts::{ARITH, MIGRATORY, STILL};
-use super::{Letters, words_of};
+use super::{Endless, words_of};
 use crate::{Status, rvc, rvc_steady};
 use rv_base::{MemorySink, MemorySource, ReadAnswer, Source, SteadySink, SteadySource};
 use std::test::Fail;
@@ -205,13 +205,19 @@ fn a_line_has_at_most_256_bytes(rt: HostRuntime) -> Result<(), Fail> {
 }
 
 #[test]
-fn a_line_without_end_is_refused(rt: HostRuntime) -> Result<(), Fail> {
+fn a_schedule_without_end_is_refused(rt: HostRuntime) -> Result<(), Fail> {
     let words = words_of(&rt, &["rv", "p", "1"])?;
-    let mut protocol = SteadySource::new(rt.alloc(), STILL, 4_096).or(Err("memory"))?;
-    let mut out = SteadySink::new(rt.alloc(), 7);
-    let status = rvc(rt.alloc(), &words, &mut protocol, &mut Letters, &mut out);
-    assert_eq!(rt; status, Status::ScheduleRefused);
-    assert_eq!(rt; out.taken(), b"error schedule line 1\n".as_slice());
+    for (byte, text) in [
+        (b'x', b"error schedule line 1\n".as_slice()),
+        (b'\n', b"error schedule too long\n"),
+    ] {
+        let mut protocol = SteadySource::new(rt.alloc(), STILL, 4_096).or(Err("memory"))?;
+        let mut out = SteadySink::new(rt.alloc(), 7);
+        let mut schedule = Endless(byte);
+        let status = rvc(rt.alloc(), &words, &mut protocol, &mut schedule, &mut out);
+        assert_eq!(rt; status, Status::ScheduleRefused);
+        assert_eq!(rt; out.taken(), text);
+    }
     Ok(())
 }
 
