@@ -248,8 +248,8 @@ module _ (protocol : NumberedProtocol) (mode : Mode) (k : ℕ) (home_rows remote
   ByRowOf None = ByNoRow
   ByRowOf (Some firing) = FiresSo firing.process firing
 
-  -- The step from c to d is explained by the row that it fires, or fires none, and then nobody changes. The
-  -- links in d are those in c after the one put and the one take.
+  -- The step from c to d is explained by the row that it fires; or it fires none, and nobody changes place
+  -- or variables. The links in d are those in c after at most one put and then at most one take.
   pub record ByRow : Type 0 where
     pub row : ByRowOf (fired protocol c s)
     pub links : d.links ≡ links_after protocol mode k c s (put_of protocol mode k c s)

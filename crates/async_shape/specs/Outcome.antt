@@ -1,6 +1,7 @@
 -- What a step does, kind by kind: at the home, where it stands after the step, what it holds then, and the
 -- packet, at most one, that it puts on a link; at a remote, where it stands then, and such a packet. None
--- where the step is not enabled. Whatever a definition does not name stays.
+-- where the step is not enabled, but for the range of the remote's number and for an empty link, which
+-- `Next` looks at. Whatever a definition does not name stays.
 use Rattle.std.specs.Prelude.{ℕ, ◌+◌, Bool, not, ◌&&◌, ◌||◌, ◌==◌, nat_le, if◌then◌else◌, List, [], ◌∷◌, ◌++◌, length, Option, Some, None, is_some, slice_set}
 use Rattle.std.specs.Option.{option_map, option_map_or, option_and_then}
 use Rattle.std.specs.List.{list_any, range_with_len}
@@ -195,7 +196,7 @@ module _ (protocol : NumberedProtocol) (n : ℕ) (home : HomeState) (held : List
   abbrev pub made_room : Held → Held → HomeOutcome
   made_room request last = at_home home (displaced held request) (put_on (Down last.from) packet.Nack)
 
-  -- A request of j, and the home doesn't wait on j: it is kept, or displaces the last held one, or is nacked.
+  -- A request, and the home doesn't wait on its sender: it is kept, or displaces the last held one, or is nacked.
   abbrev pub up_request : ℕ → Held → HomeOutcome
   up_request k request =
       if admits n protocol.home home k held request then at_home home (held ++ request ∷ []) None
@@ -306,7 +307,7 @@ module _ (protocol : NumberedProtocol) (j : ℕ) (remote : RemoteState) where
   down_waiting g (packet.Reply p v) =
       option_map_or (remote_at remote) (option_and_then (λ rule. after_both protocol.remote remote.vars rule 0 v) (guard_at protocol.remote g)) remote
 
-  -- a remote that is due takes no packet
+  -- the remote after the packet has arrived, by its place; one that is due does not change
   abbrev pub down_at : Place → Packet → RemoteState
   down_at (Comm state) arrived = down_idle arrived
   down_at (Trans g) arrived = down_waiting g arrived

@@ -1,4 +1,4 @@
--- Which requests the home can use, which of them it keeps, and which displace another.
+-- Which requests complete a guard of the home, which are kept, and which displace another.
 use Rattle.std.specs.Prelude.{ℕ, Bool, true, false, not, ◌&&◌, ◌==◌, nat_lt, List, length, Option, is_some}
 use Rattle.std.specs.List.{list_any, position_from}
 use Rattle.proto_model.specs.Values.{may_meet}
