@@ -6,3 +6,4 @@ pub mod Store
 pub mod Whole
 pub mod Words
 pub mod Numbers
+pub mod Lists

@@ -1,11 +1,13 @@
 -- What a read and a write do to the bytes and to the count of faults of what they are called on.
-use Rattle.std.specs.Prelude.{◌≡◌, ℕ, ◌+◌, ◌-◌, ◌^◌, ◌≤◌, min, List, length, take, IsNone}
+use Rattle.std.specs.Prelude.{◌≡◌, Bool, true, false, ℕ, ◌+◌, ◌-◌, ◌^◌, ◌≤◌, min, List, length}
+use Rattle.std.specs.Prelude.{take, IsNone}
 use Rattle.std.specs.declared.option.Option.{Option}
 use Rattle.std.specs.Io.KnownBytes.{prepend_known, append_known, IsAtEnd}
 use Rattle.rv_base.specs.declared.outside.ReadAnswer.{ReadAnswer}
 use Rattle.rv_base.specs.declared.outside.ReadAnswer.TheVariants.{Got, End, Failed, NoMemory}
 use Rattle.rv_base.specs.declared.outside.WriteAnswer.{WriteAnswer}
-use Rattle.rv_base.specs.declared.outside.WriteAnswer.TheVariants.{Took, Failed as WriteFailed, NoMemory as WriteNoMemory}
+use Rattle.rv_base.specs.declared.outside.WriteAnswer.TheVariants.{Took, Failed as WriteFailed}
+use Rattle.rv_base.specs.declared.outside.WriteAnswer.TheVariants.{NoMemory as WriteNoMemory}
 
 -- A count after one more: it stands still at 2^64 - 1, the last value of a counter.
 abbrev pub counted : ℕ → ℕ
@@ -34,6 +36,13 @@ ReadCounts before now End = now ≡ before
 ReadCounts before now Failed = (before ≤ now) × Rose before now
 ReadCounts before now NoMemory = now ≡ before
 
+-- Whether the last read of a source answered End, after a read.
+abbrev pub ReadEnds : Bool → ReadAnswer → Type 0
+ReadEnds now (Got count) = now ≡ false
+ReadEnds now End = now ≡ true
+ReadEnds now Failed = now ≡ false
+ReadEnds now NoMemory = now ≡ false
+
 -- The bytes taken before and after a write of a piece. Took: a front of the piece, of at least
 -- one byte, follows what was taken before. After each other answer the bytes taken stay.
 abbrev pub WriteMoves : Option (List ℕ) → Option (List ℕ) → List ℕ → WriteAnswer → Type 0
@@ -48,3 +57,9 @@ abbrev pub WriteCounts : ℕ → ℕ → WriteAnswer → Type 0
 WriteCounts before now (Took count) = now ≡ before
 WriteCounts before now WriteFailed = (before ≤ now) × Rose before now
 WriteCounts before now WriteNoMemory = now ≡ before
+
+-- Whether the last write on a sink took nothing, after a write.
+abbrev pub WriteGoes : Bool → WriteAnswer → Type 0
+WriteGoes now (Took count) = now ≡ false
+WriteGoes now WriteFailed = now ≡ true
+WriteGoes now WriteNoMemory = now ≡ true

@@ -1,13 +1,14 @@
 -- What a sink in memory holds, and what a write adds to it.
-use Rattle.std.specs.Prelude.{◌≡◌, ℕ, ◌≤◌, min, List, [], ◌++◌, length, take}
+use Rattle.std.specs.Prelude.{◌≡◌, Bool, true, false, ℕ, ◌≤◌, min, List, [], ◌++◌, length, take}
 use Rattle.rv_base.specs.Calls.{Calls, no_calls}
 use Rattle.rv_base.specs.declared.outside.WriteAnswer.{WriteAnswer}
 use Rattle.rv_base.specs.declared.outside.WriteAnswer.TheVariants.{Took, Failed, NoMemory}
 
--- The bytes taken, and the most that one write takes.
+-- The bytes taken, the most that one write takes, and whether the last write took nothing.
 pub record Store : Type 0 where
   pub taken : List ℕ
   pub most : ℕ
+  pub refused : Bool
 
 -- A store some of whose writes are to fail.
 pub record FailingStore : Type 0 where
@@ -16,7 +17,11 @@ pub record FailingStore : Type 0 where
 
 -- Nothing is taken yet.
 abbrev pub new_store : ℕ → Store
-new_store most = record { taken = []; most = most }
+new_store most = record { taken = []; most = most; refused = false }
+
+-- The store after a write that took nothing: the bytes taken stay.
+abbrev pub refusing_store : Store → Store
+refusing_store store = record { taken = store.taken; most = store.most; refused = true }
 
 -- Nothing is taken yet, no write was made, and those with these numbers are to fail.
 abbrev pub new_failing_store : ℕ → List ℕ → FailingStore
@@ -28,10 +33,10 @@ abbrev pub Takes : Store → Store → List ℕ → WriteAnswer → Type 0
 Takes old new piece (Took count) =
     (1 ≤ count)
     × (count ≡ min old.most (length piece))
-    × (new ≡ record { taken = old.taken ++ take count piece; most = old.most })
+    × (new ≡ record { taken = old.taken ++ take count piece; most = old.most; refused = false })
 Takes old new piece Failed = ⊥
-Takes old new piece NoMemory = new ≡ old
+Takes old new piece NoMemory = new ≡ refusing_store old
 
 -- A write that is to fail: it answers so, and nothing is taken.
 abbrev pub RefusesWrite : Store → Store → WriteAnswer → Type 0
-RefusesWrite old new answer = (answer ≡ Failed) × (new ≡ old)
+RefusesWrite old new answer = (answer ≡ Failed) × (new ≡ refusing_store old)

@@ -1,26 +1,43 @@
 -- What reading a source to its end and writing a text whole do to the bytes and to the counts.
-use Rattle.std.specs.Prelude.{◌≡◌, ℕ, ◌≤◌, ◌<◌, List, length, take}
+use Rattle.std.specs.Prelude.{◌≡◌, Bool, true, false, ◌⊎◌, ℕ, ◌+◌, ◌≤◌, ◌<◌, List, length, take}
 use Rattle.std.specs.declared.option.Option.{Option}
 use Rattle.std.specs.Io.KnownBytes.{prepend_known, append_known, IsAtEnd}
 use Rattle.rv_base.specs.Outside.{Rose}
 use Rattle.rv_base.specs.declared.whole.Gathered.{Gathered}
 use Rattle.rv_base.specs.declared.whole.Gathered.TheVariants.{Whole, TooLong, Failed, NoMemory}
 use Rattle.rv_base.specs.declared.whole.Wrote.{Wrote}
-use Rattle.rv_base.specs.declared.whole.Wrote.TheVariants.{Whole as WroteWhole, Failed as WriteFailed, NoMemory as WriteNoMemory}
+use Rattle.rv_base.specs.declared.whole.Wrote.TheVariants.{Whole as WroteWhole}
+use Rattle.rv_base.specs.declared.whole.Wrote.TheVariants.{Failed as WriteFailed}
+use Rattle.rv_base.specs.declared.whole.Wrote.TheVariants.{NoMemory as WriteNoMemory}
+
+-- The most bytes that a protocol file may have.
+abbrev pub file_limit : ℕ
+file_limit = 65536
 
 -- A front of at most so many bytes is no longer left.
 abbrev pub TakesAtMost : ℕ → Option (List ℕ) → Option (List ℕ) → Type 0
-TakesAtMost most old new = (front : List ℕ) × (length front ≤ most) × (old ≡ prepend_known front new)
+TakesAtMost most old new =
+    (front : List ℕ) × (length front ≤ most) × (old ≡ prepend_known front new)
 
--- The bytes left before and after a source is read whole. Whole: the bytes answered are all that
--- was left, at most 65,536, and it was read to its end. TooLong: it gave 65,537 bytes. Failed: at
--- most 65,536 bytes were taken. Want of memory: at most 65,537 bytes were taken.
-abbrev pub Reads : Option (List ℕ) → Option (List ℕ) → Gathered → Type 0
-Reads old new (Whole bytes) =
-    (length bytes.items ≤ 65536) × (old ≡ prepend_known bytes.items new) × IsAtEnd new
-Reads old new TooLong = (front : List ℕ) × (length front ≡ 65537) × (old ≡ prepend_known front new)
-Reads old new Failed = TakesAtMost 65536 old new
-Reads old new NoMemory = TakesAtMost 65537 old new
+-- The bytes left before and after a source is read whole, up to a limit. Whole: the bytes answered
+-- are all that was left, no more than the limit, and it was read to its end. TooLong: it gave one
+-- byte more than the limit. Failed: at most as many bytes as the limit were taken. Want of memory:
+-- at most one more than the limit was taken.
+abbrev pub Reads : ℕ → Option (List ℕ) → Option (List ℕ) → Gathered → Type 0
+Reads limit old new (Whole bytes) =
+    (length bytes.items ≤ limit) × (old ≡ prepend_known bytes.items new) × IsAtEnd new
+Reads limit old new TooLong =
+    (front : List ℕ) × (length front ≡ limit + 1) × (old ≡ prepend_known front new)
+Reads limit old new Failed = TakesAtMost limit old new
+Reads limit old new NoMemory = TakesAtMost (limit + 1) old new
+
+-- Whether the last read of a source answered End, after it is read whole: it did where all that was
+-- left is answered, and only there.
+abbrev pub ReadsToEnd : Bool → Gathered → Type 0
+ReadsToEnd now (Whole bytes) = now ≡ true
+ReadsToEnd now TooLong = now ≡ false
+ReadsToEnd now Failed = now ≡ false
+ReadsToEnd now NoMemory = now ≡ false
 
 -- The count of faults before and after a source is read whole: it rose where a read failed, and
 -- stays at each other answer.
@@ -48,3 +65,11 @@ abbrev pub WriteCauses : ℕ → ℕ → Wrote → Type 0
 WriteCauses before now WroteWhole = now ≡ before
 WriteCauses before now WriteFailed = (before ≤ now) × Rose before now
 WriteCauses before now WriteNoMemory = now ≡ before
+
+-- A sink before and after a text is written whole, and whether its last write took nothing. Whole:
+-- no write was made, or the last one took something. After a failure or want of memory the last
+-- write took nothing.
+abbrev pub WritesThrough : {O : Type 0} → (O → Bool) → O → O → Wrote → Type 0
+WritesThrough refused old new WroteWhole = (new ≡ old) ⊎ (refused new ≡ false)
+WritesThrough refused old new WriteFailed = refused new ≡ true
+WritesThrough refused old new WriteNoMemory = refused new ≡ true

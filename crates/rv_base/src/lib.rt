@@ -7,8 +7,9 @@
 //! - `no_memory`: the one error of a call that allocates.
 //! - `numbers` and `numerals`: numbers written as decimal text, and read from it.
 //! - `outside`: sources and sinks of bytes, as traits. A contract speaks of the bytes left or
-//!   taken, where they are told, and of a count of faults: a call may answer that reading or
-//!   writing failed only where the count of that source or sink rose.
+//!   taken, where they are told, of a count of faults, and of what the last call answered: a call
+//!   may answer that reading or writing failed only where the count of that source or sink rose,
+//!   and that a source is at its end only where its last read said so.
 //! - `memory`: sources and sinks in memory, which do exactly as they are told, failing calls
 //!   included.
 //! - `whole`: the two loops over the outside, a file read to its end and a text written whole.

@@ -1,8 +1,9 @@
 //! Where bytes come from and where they go: sources, sinks, and what a call on one answers.
 
-ghost use Rattle.std.specs.Prelude.{◌<◌, List, ℕ, length};
+ghost use Rattle.std.specs.Prelude.{◌<◌, Bool, List, ℕ, length};
 ghost use Rattle.std.specs.declared.option.Option.{Option};
-ghost use Rattle.rv_base.specs.Outside.{ReadMoves, WriteMoves, ReadCounts, WriteCounts};
+ghost use Rattle.rv_base.specs.Outside.{ReadMoves, ReadCounts, ReadEnds};
+ghost use Rattle.rv_base.specs.Outside.{WriteMoves, WriteCounts, WriteGoes};
 
 /// What a read answers.
 #[derive(Clone, Copy, Debug, PartialEq, Eq)]
@@ -37,11 +38,15 @@ pub trait Source {
     /// How many reads failed. The count never falls, and stops at 2^64 - 1.
     ghost faults: { Self → ℕ };
 
+    /// Whether the last read answered `End`.
+    ghost ended: { Self → Bool };
+
     /// Reads at least one and at most `into.len()` bytes to the front of `into`, or says why not.
     fn read(&mut self, into: &mut [u8]) -> ReadAnswer
         requires { 0 < length into.old }
         ensures bytes { ReadMoves (left self.old) (left self.new) into.new result }
-        ensures cause { ReadCounts (faults self.old) (faults self.new) result };
+        ensures cause { ReadCounts (faults self.old) (faults self.new) result }
+        ensures ends { ReadEnds (ended self.new) result };
 }
 
 /// What takes bytes, one after another.
@@ -52,9 +57,13 @@ pub trait Sink {
     /// How many writes failed. The count never falls, and stops at 2^64 - 1.
     ghost faults: { Self → ℕ };
 
+    /// Whether the last write answered anything but `Took`.
+    ghost refused: { Self → Bool };
+
     /// Takes at least one byte and at most all of `piece`, from its front, or says why not.
     fn write(&mut self, piece: &[u8]) -> WriteAnswer
         requires { 0 < length piece.now }
         ensures bytes { WriteMoves (taken self.old) (taken self.new) piece.now result }
-        ensures cause { WriteCounts (faults self.old) (faults self.new) result };
+        ensures cause { WriteCounts (faults self.old) (faults self.new) result }
+        ensures went { WriteGoes (refused self.new) result };
 }

@@ -1,12 +1,13 @@
 //! A source read to its end, and a text written whole.
 
-ghost use Rattle.std.specs.Prelude.{◌≡◌, ◌≤◌, ◌<◌, List};
-ghost use Rattle.rv_base.specs.Whole.{Reads, ReadCauses, Writes, WriteCauses};
+ghost use Rattle.std.specs.Prelude.{◌≡◌, ◌≤◌, ◌<◌, ◌^◌, List};
+ghost use Rattle.rv_base.specs.Whole.{Reads, ReadCauses, ReadsToEnd};
+ghost use Rattle.rv_base.specs.Whole.{Writes, WriteCauses, WritesThrough};
 
 use crate::{ReadAnswer, Sink, Source, WriteAnswer};
 use std::alloc::Global;
 
-/// The most bytes that a file may have.
+/// The most bytes that a protocol file may have.
 pub const FILE_LIMIT: usize = 65_536;
 
 // How many bytes one read asks for, at most.
@@ -15,14 +16,15 @@ const PIECE: usize = 1_024;
 /// What came of reading a source to its end.
 #[derive(Debug, Drop)]
 pub enum Gathered {
-    /// All that was left. The source was read to its end.
+    /// All that was left, no more than the limit. The last read answered that nothing is left.
     Whole(Vec<u8>),
-    /// More than `FILE_LIMIT` bytes were left. One more than the limit was taken.
+    /// More bytes than the limit were left. One more than the limit was taken.
     TooLong,
-    /// A read failed, and the source counted the fault. At most `FILE_LIMIT` bytes were taken.
+    /// A read failed, and the source counted the fault. At most as many bytes as the limit were
+    /// taken.
     Failed,
     /// There is no memory for the bytes, or the source had none for a read. At most one byte more
-    /// than `FILE_LIMIT` was taken.
+    /// than the limit was taken.
     NoMemory,
 }
 
@@ -31,21 +33,23 @@ pub enum Gathered {
 pub enum Wrote {
     /// All of the text was taken.
     Whole,
-    /// A write failed, and the sink counted the fault. A part of the text was taken.
+    /// The last write failed, and the sink counted the fault. A part of the text was taken.
     Failed,
-    /// The sink had no memory for a write. A part of the text was taken.
+    /// The sink had no memory for the last write. A part of the text was taken.
     NoMemory,
 }
 
-/// Reads a source to its end, or to one byte past the limit of a file.
-pub fn read_whole<S: Source>(alloc: Global, source: &mut S) -> Gathered
-    ensures bytes { Reads (S.left source.old) (S.left source.new) result }
+/// Reads a source to its end, or to one byte past the limit, a number of bytes below 2^32.
+pub fn read_whole<S: Source>(alloc: Global, source: &mut S, limit: usize) -> Gathered
+    requires { limit < 2 ^ 32 }
+    ensures bytes { Reads limit (S.left source.old) (S.left source.new) result }
     ensures cause { ReadCauses (S.faults source.old) (S.faults source.new) result }
+    ensures ends { ReadsToEnd (S.ended source.new) result }
 {
     let mut bytes = Vec::new(alloc);
     let mut piece = [0u8; PIECE];
-    while bytes.len() <= FILE_LIMIT {
-        let room = PIECE.min(FILE_LIMIT + 1 - bytes.len());
+    while bytes.len() <= limit {
+        let room = PIECE.min(limit + 1 - bytes.len());
         match source.read(&mut piece[..room]) {
             ReadAnswer::Got(count) => {
                 if bytes.extend_from_slice(&piece[..count]).is_err() {
@@ -64,6 +68,7 @@ pub fn read_whole<S: Source>(alloc: Global, source: &mut S) -> Gathered
 pub fn write_whole<O: Sink>(out: &mut O, text: &[u8]) -> Wrote
     ensures bytes { Writes (O.taken out.old) (O.taken out.new) text.now result }
     ensures cause { WriteCauses (O.faults out.old) (O.faults out.new) result }
+    ensures went { WritesThrough O.refused out.old out.new result }
 {
     let mut done = 0;
     while done < text.len() {
@@ -87,7 +92,7 @@ mod tests {
         for (length, gathered) in [(0, Some(0)), (65_536, Some(65_536)), (65_537, None)] {
             let file = vec![in rt.alloc(); b'x'; length]?;
             let mut source = SteadySource::new(rt.alloc(), &file, 1_000)?;
-            let found = match read_whole(rt.alloc(), &mut source) {
+            let found = match read_whole(rt.alloc(), &mut source, FILE_LIMIT) {
                 Gathered::Whole(bytes) => Some(bytes.len()),
                 Gathered::TooLong => None,
                 Gathered::Failed | Gathered::NoMemory => return Err("no answer".into()),
@@ -100,7 +105,7 @@ mod tests {
     #[test]
     fn a_fault_in_mid_stream_ends_the_loop(rt: HostRuntime) -> Result<(), Fail> {
         let mut source = MemorySource::new(rt.alloc(), b"abcde", 2, &[2])?;
-        assert!(rt; matches!(read_whole(rt.alloc(), &mut source), Gathered::Failed));
+        assert!(rt; matches!(read_whole(rt.alloc(), &mut source, 5), Gathered::Failed));
         let mut steady = SteadySink::new(rt.alloc(), 2);
         assert_eq!(rt; write_whole(&mut steady, b"abcde"), Wrote::Whole);
         assert_eq!(rt; steady.taken(), b"abcde".as_slice());

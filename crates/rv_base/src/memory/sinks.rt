@@ -3,8 +3,9 @@
 ghost use Rattle.std.specs.Prelude.{◌≡◌, ◌<◌, ◌≤◌, length, IfOk, Some};
 ghost use Rattle.std.specs.Bool.{OnTrue, OnFalse};
 ghost use Rattle.rv_base.specs.Calls.{fails_next, after_call};
-ghost use Rattle.rv_base.specs.Outside.{WriteMoves, WriteCounts};
-ghost use Rattle.rv_base.specs.Store.{Store, FailingStore, new_store, new_failing_store, Takes, RefusesWrite};
+ghost use Rattle.rv_base.specs.Outside.{WriteMoves, WriteCounts, WriteGoes};
+ghost use Rattle.rv_base.specs.Store.{Store, FailingStore, new_store, new_failing_store};
+ghost use Rattle.rv_base.specs.Store.{Takes, RefusesWrite};
 
 use crate::memory::calls::CallCounter;
 use crate::{NoMemory, Sink, WriteAnswer};
@@ -16,12 +17,17 @@ use std::marker::Model;
 pub struct SteadySink {
     bytes: Vec<u8>,
     most: usize,
+    refused: bool,
 }
 
 impl Model for SteadySink {
     ghost Value = { Store };
 
-    ghost view = { λ sink. record { taken = sink.bytes.items; most = sink.most } };
+    ghost view = { λ sink. record {
+      taken = sink.bytes.items;
+      most = sink.most;
+      refused = sink.refused;
+    } };
 
     ghost invariant = { λ sink. 1 ≤ sink.most };
 }
@@ -35,6 +41,7 @@ impl SteadySink {
         SteadySink {
             bytes: Vec::new(alloc),
             most,
+            refused: false,
         }
     }
 
@@ -51,18 +58,22 @@ impl Sink for SteadySink {
 
     ghost faults = { λ _. 0 };
 
+    ghost refused = { λ sink. sink.refused };
+
     /// Takes the lesser of `most` and `piece.len()` bytes, or answers that its memory can't grow.
     fn write(&mut self, piece: &[u8]) -> WriteAnswer
         requires { 0 < length piece.now }
         ensures bytes { WriteMoves (Some self.old.taken) (Some self.new.taken) piece.now result }
         ensures cause { WriteCounts 0 0 result }
+        ensures went { WriteGoes self.new.refused result }
         ensures exact { Takes self.old self.new piece.now result }
     {
         let count = self.most.min(piece.len());
-        match self.bytes.extend_from_slice(&piece[..count]) {
-            Ok(()) => WriteAnswer::Took(count),
-            Err(_) => WriteAnswer::NoMemory,
+        self.refused = self.bytes.extend_from_slice(&piece[..count]).is_err();
+        if self.refused {
+            return WriteAnswer::NoMemory;
         }
+        WriteAnswer::Took(count)
     }
 }
 
@@ -105,12 +116,15 @@ impl Sink for MemorySink {
 
     ghost faults = { λ sink. sink.calls.failed };
 
+    ghost refused = { λ sink. sink.store.refused };
+
     /// Writes as a `SteadySink` does, or fails where the number of this call is listed.
     fn write(&mut self, piece: &[u8]) -> WriteAnswer
         requires { 0 < length piece.now }
         ensures bytes { WriteMoves (Some self.old.store.taken) (Some self.new.store.taken)
             piece.now result }
         ensures cause { WriteCounts self.old.calls.failed self.new.calls.failed result }
+        ensures went { WriteGoes self.new.store.refused result }
         ensures calls { self.new.calls ≡ after_call self.old.calls }
         ensures listed { OnTrue (fails_next self.old.calls)
             (RefusesWrite self.old.store self.new.store result) }
@@ -118,6 +132,7 @@ impl Sink for MemorySink {
             (Takes self.old.store self.new.store piece.now result) }
     {
         if self.calls.fails() {
+            self.steady.refused = true;
             WriteAnswer::Failed
         } else {
             self.steady.write(piece)

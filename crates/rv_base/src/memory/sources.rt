@@ -3,8 +3,9 @@
 ghost use Rattle.std.specs.Prelude.{◌≡◌, ◌<◌, ◌≤◌, drop, length, vec_len, IfOk, Some};
 ghost use Rattle.std.specs.Bool.{OnTrue, OnFalse};
 ghost use Rattle.rv_base.specs.Calls.{fails_next, after_call};
-ghost use Rattle.rv_base.specs.Outside.{ReadMoves, ReadCounts};
-ghost use Rattle.rv_base.specs.Supply.{Supply, FailingSupply, new_supply, new_failing_supply, Gives, RefusesRead};
+ghost use Rattle.rv_base.specs.Outside.{ReadMoves, ReadCounts, ReadEnds};
+ghost use Rattle.rv_base.specs.Supply.{Supply, FailingSupply, new_supply, new_failing_supply};
+ghost use Rattle.rv_base.specs.Supply.{Gives, RefusesRead};
 
 use crate::memory::calls::CallCounter;
 use crate::{NoMemory, ReadAnswer, Source};
@@ -17,12 +18,17 @@ pub struct SteadySource {
     bytes: Vec<u8>,
     at: usize,
     most: usize,
+    ended: bool,
 }
 
 impl Model for SteadySource {
     ghost Value = { Supply };
 
-    ghost view = { λ source. record { left = drop source.at source.bytes.items; most = source.most } };
+    ghost view = { λ source. record {
+      left = drop source.at source.bytes.items;
+      most = source.most;
+      ended = source.ended;
+    } };
 
     ghost invariant = { λ source. (1 ≤ source.most) × (source.at ≤ vec_len source.bytes) };
 }
@@ -37,6 +43,7 @@ impl SteadySource {
             bytes: bytes.to_vec(alloc)?,
             at: 0,
             most,
+            ended: false,
         })
     }
 }
@@ -46,15 +53,19 @@ impl Source for SteadySource {
 
     ghost faults = { λ _. 0 };
 
+    ghost ended = { λ source. source.ended };
+
     /// Reads the lesser of `most` and `into.len()`, and no more than is left.
     fn read(&mut self, into: &mut [u8]) -> ReadAnswer
         requires { 0 < length into.old }
         ensures bytes { ReadMoves (Some self.old.left) (Some self.new.left) into.new result }
         ensures cause { ReadCounts 0 0 result }
+        ensures ends { ReadEnds self.new.ended result }
         ensures exact { Gives self.old self.new into.old into.new result }
     {
         let rest = &self.bytes[self.at..];
-        if rest.is_empty() {
+        self.ended = rest.is_empty();
+        if self.ended {
             return ReadAnswer::End;
         }
         let count = self.most.min(into.len()).min(rest.len());
@@ -101,12 +112,15 @@ impl Source for MemorySource {
 
     ghost faults = { λ source. source.calls.failed };
 
+    ghost ended = { λ source. source.supply.ended };
+
     /// Reads as a `SteadySource` does, or fails where the number of this call is listed.
     fn read(&mut self, into: &mut [u8]) -> ReadAnswer
         requires { 0 < length into.old }
         ensures bytes { ReadMoves (Some self.old.supply.left) (Some self.new.supply.left)
             into.new result }
         ensures cause { ReadCounts self.old.calls.failed self.new.calls.failed result }
+        ensures ends { ReadEnds self.new.supply.ended result }
         ensures calls { self.new.calls ≡ after_call self.old.calls }
         ensures listed { OnTrue (fails_next self.old.calls)
             (RefusesRead self.old.supply self.new.supply into.old into.new result) }
@@ -114,6 +128,7 @@ impl Source for MemorySource {
             (Gives self.old.supply self.new.supply into.old into.new result) }
     {
         if self.calls.fails() {
+            self.steady.ended = false;
             ReadAnswer::Failed
         } else {
             self.steady.read(into)
