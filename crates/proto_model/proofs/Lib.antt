@@ -2,6 +2,8 @@ pub mod LaidMarks
 pub mod LaidOutSpells
 pub mod Writing
 pub mod NodeBits
+pub mod NodeSets
+pub mod Bare
 pub mod VarsPlaces
 pub mod Elements
 pub mod TypedValues

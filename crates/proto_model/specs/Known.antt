@@ -22,27 +22,32 @@ use Rattle.proto_model.specs.declared.numbered.Side.{Side}
 use Rattle.proto_model.specs.declared.numbered.Side.TheVariants as side
 
 module _ (vars : List Var) where
+  -- the name is that of a variable of the process
   abbrev pub knows_var : Text → Bool
   knows_var name = is_declared name (var_names vars)
 
+  -- a term that is a name is that of a variable; a number, `none` and `empty` use no name
   abbrev pub knows_term : Term → Bool
   knows_term (term.Number n) = true
   knows_term (term.Named name) = knows_var name
   knows_term term.Nowhere = true
   knows_term term.Empty = true
 
+  -- each term of the expression is known
   abbrev pub knows_expr : Expr → Bool
   knows_expr (expr.One t) = knows_term t
   knows_expr (expr.Plus t u) = knows_term t && knows_term u
   knows_expr (expr.Minus t u) = knows_term t && knows_term u
 
+  -- both sides of the condition are known
   abbrev pub knows_atom : Atom → Bool
   knows_atom a = knows_expr a.left && knows_expr a.right
 
+  -- the variable that is assigned and the expression are known
   abbrev pub knows_assign : Assign → Bool
   knows_assign a = knows_var a.var && knows_expr a.value
 
-  -- the variables of a home guard's partner; a remote's are not looked up
+  -- The variables of a home guard's partner are known. Those of a remote guard's are not looked up.
   abbrev pub knows_partner : Side → Partner → Bool
   knows_partner side.Remote p = true
   knows_partner side.Home partner.Home = true
@@ -50,15 +55,18 @@ module _ (vars : List Var) where
   knows_partner side.Home (partner.Member x s) = knows_var x && knows_var s
   knows_partner side.Home (partner.Named x) = knows_var x
 
+  -- the variable that an input binds is known, if it binds one
   abbrev pub knows_bound : Option Text → Bool
   knows_bound None = true
   knows_bound (Some x) = knows_var x
 
+  -- the value that an output sends is known, if it sends one
   abbrev pub knows_value : Option Expr → Bool
   knows_value None = true
   knows_value (Some e) = knows_expr e
 
-  -- the message, and the variables of the partner, of the bound value and of the value sent
+  -- The message is declared, and the variables of the partner, of the bound value and of the value
+  -- sent are known. A local step uses no name.
   abbrev pub knows_action : Side → List Message → GuardKind → Bool
   knows_action s messages action.Tau = true
   knows_action s messages (action.Input p m bound) =

@@ -1,7 +1,9 @@
 -- The bytes of a file cut into lexemes from the front, each with its line.
-use Rattle.std.specs.Prelude.{ℕ, ◌+◌, Bool, true, false, not, ◌&&◌, ◌==◌, if◌then◌else◌, List, [], ◌∷◌}
+use Rattle.std.specs.Prelude.{ℕ, ◌+◌, Bool, true, false, not, ◌&&◌, ◌==◌, if◌then◌else◌}
+use Rattle.std.specs.Prelude.{List, [], ◌∷◌}
 use Rattle.proto_model.specs.Tokens.{Text, is_word, is_space, begins_word}
 
+-- A lexeme is its text, and the line on which it begins.
 pub record Lexeme : Type 0 where
   pub text : Text
   pub line : ℕ
@@ -10,6 +12,7 @@ pub record Lexeme : Type 0 where
 abbrev pub line_after : ℕ → ℕ → ℕ
 line_after b line = if b == 10 then line + 1 else line
 
+-- two slashes stand in front
 abbrev pub begins_comment : Text → Bool
 begins_comment (b ∷ c ∷ _) = (b == 47) && (c == 47)
 begins_comment _ = false

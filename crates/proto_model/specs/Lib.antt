@@ -17,6 +17,7 @@ pub mod Proper
 pub mod Marks
 pub mod NodeSets
 pub mod Values
+pub mod Guards
 pub mod ValueTypes
 pub mod Filled
 pub mod Rendezvous

@@ -1,5 +1,7 @@
--- The numbered protocol: each used name replaced by the place of its first declaration, counted from
--- 0, among its own kind. A name that is not declared gets 0; a well-formed protocol uses none.
+-- The numbered protocol: each used name replaced by the place of its first declaration, counted
+-- from 0, among its own kind. A name that is not declared gets 0; a well-formed protocol uses none.
+-- Rows, pairs and steps speak of it alone; what a file says beside its protocol stands in
+-- `CheckedProtocol`.
 use Rattle.std.specs.Prelude.{ℕ, List, unwrap_or, map}
 use Rattle.std.specs.Option.{option_map}
 use Rattle.proto_model.specs.Tokens.{Text}
@@ -40,7 +42,7 @@ use Rattle.proto_model.specs.declared.numbered.VarInfo.{VarInfo}
 use Rattle.proto_model.specs.declared.numbered.MessageInfo.{MessageInfo}
 use Rattle.proto_model.specs.declared.numbered.Body.{Body}
 
--- a protocol in numbered form
+-- a protocol in numbered form: its name, its messages in file order, its two processes
 pub record NumberedProtocol : Type 0 where
   pub name : Text
   pub messages : List MessageInfo
@@ -81,9 +83,11 @@ module _ (vars : List Var) where
   abbrev pub numbered_action : List Message → GuardKind → RuleKind
   numbered_action messages action.Tau = rule_kind.Tau
   numbered_action messages (action.Input p m bound) =
-      rule_kind.Input (numbered_partner p) (place_or_zero m (message_names messages)) (option_map numbered_var bound)
+      rule_kind.Input (numbered_partner p) (place_or_zero m (message_names messages))
+      (option_map numbered_var bound)
   numbered_action messages (action.Output p m sent) =
-      rule_kind.Output (numbered_partner p) (place_or_zero m (message_names messages)) (option_map numbered_expr sent)
+      rule_kind.Output (numbered_partner p) (place_or_zero m (message_names messages))
+      (option_map numbered_expr sent)
 
 abbrev pub numbered_guard : List Message → List Var → List State → Guard → Rule
 numbered_guard messages vars states g = record {
@@ -118,10 +122,18 @@ numbered_process messages p = record {
   states = map (numbered_state messages p.vars p.states) p.states;
 }
 
-abbrev pub numbered : Protocol → NumberedProtocol
-numbered p = record {
+abbrev pub numbered_protocol : Protocol → NumberedProtocol
+numbered_protocol p = record {
   name = p.name;
   messages = map numbered_message p.messages;
   home = numbered_process p.messages p.home;
   remote = numbered_process p.messages p.remote;
 }
+
+-- What a file says, in numbered form, with all names replaced. What it says beside its protocol
+-- stands here and not in the protocol, so that no row, pair, table or step depends on it.
+pub record CheckedProtocol : Type 0 where
+  pub protocol : NumberedProtocol
+
+abbrev pub numbered : Protocol → CheckedProtocol
+numbered p = record { protocol = numbered_protocol p }

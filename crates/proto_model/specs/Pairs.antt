@@ -1,9 +1,11 @@
--- Which message is the reply of which. A message and its reply take two messages between the home and
--- a remote where each alone would take two, since the reply stands for the ack of the request.
-use Rattle.std.specs.Prelude.{ℕ, Bool, true, false, not, ◌&&◌, ◌||◌, ◌==◌, List, [], ◌∷◌, length, map, Option, Some, None, slice_get, find, flat_map}
+-- Which message is the reply of which. A message and its reply take two messages between the home
+-- and a remote where each alone would take two, since the reply stands for the ack of the request.
+use Rattle.std.specs.Prelude.{ℕ, Bool, true, false, not, ◌&&◌, ◌||◌, ◌==◌, List, [], ◌∷◌, length}
+use Rattle.std.specs.Prelude.{map, Option, Some, None, slice_get, find, flat_map}
 use Rattle.std.specs.Option.{option_map_or}
 use Rattle.std.specs.List.{list_any, list_all, range_with_len}
 use Rattle.proto_model.specs.Numbered.{NumberedProtocol}
+use Rattle.proto_model.specs.Guards.{only_next}
 use Rattle.proto_model.specs.ValueTypes.{message_in, message_out}
 use Rattle.proto_model.specs.declared.mode.Mode.{Mode}
 use Rattle.proto_model.specs.declared.mode.Mode.TheVariants.{Plain, Lean}
@@ -67,15 +69,9 @@ output_var (action.Output p m sent) = partner_var p
 abbrev pub leaves_alone : ℕ → Rule → Bool
 leaves_alone x rule = list_all (λ assign. not (assign.var == x)) rule.assigns
 
--- there is one rule alone, and it passes the test
-abbrev pub is_only : (Rule → Bool) → List Rule → Bool
-is_only test [] = false
-is_only test (rule ∷ []) = test rule
-is_only test (rule ∷ other ∷ rules) = false
-
 -- the state to which the rule goes has one rule alone, which passes the test
 abbrev pub goes_to_only : Body → (Rule → Bool) → Rule → Bool
-goes_to_only body test rule = option_map_or (λ state. is_only test state.rules) (slice_get body.states rule.next) false
+goes_to_only body test rule = option_map_or test (only_next body rule) false
 
 -- each rule that passes the first test passes the second
 abbrev pub each_that : (Rule → Bool) → (Rule → Bool) → List Rule → Bool
@@ -94,30 +90,34 @@ module _ (protocol : NumberedProtocol) where
   abbrev pub goes_down : ℕ → Bool
   goes_down m = option_map_or (λ info. not info.up) (slice_get protocol.messages m) false
 
-  -- An up message q is paired with the down message p: some remote output gives q, and each one goes
-  -- to a state whose only rule is an input of p without a condition.
+  -- An up message q is paired with the down message p: some remote output gives q, and each one
+  -- goes to a state whose only rule is an input of p without a condition.
   abbrev pub is_up_pair : ℕ → ℕ → Bool
   is_up_pair q p =
       goes_up q && (goes_down p
-      && some_and_each (gives_message q) (goes_to_only protocol.remote (awaits p)) (all_rules protocol.remote))
+      && some_and_each (gives_message q) (goes_to_only protocol.remote (awaits p))
+      (all_rules protocol.remote))
 
-  -- The home's output to the remote that x becomes or is leaves x alone in its assignments, and goes to a
-  -- state whose only rule is an input of p from the remote that x holds, without a condition.
+  -- The home's output to the remote that x becomes or is leaves x alone in its assignments, and
+  -- goes to a state whose only rule is an input of p from the remote that x holds, without a
+  -- condition.
   abbrev pub awaits_from_target : ℕ → Rule → ℕ → Bool
   awaits_from_target p rule x =
-      leaves_alone x rule && goes_to_only protocol.home (λ input. is_from x input.kind && awaits p input) rule
+      leaves_alone x rule
+      && goes_to_only protocol.home (λ input. is_from x input.kind && awaits p input) rule
 
   abbrev pub awaits_answer : ℕ → Rule → Bool
   awaits_answer p rule = option_map_or (awaits_from_target p rule) (output_var rule.kind) false
 
-  -- A down message m is paired with the up message p: some home output gives m, and each one awaits p
-  -- from the remote to which it went; some remote input takes m, and each one goes to an active state
-  -- whose output is p.
+  -- A down message m is paired with the up message p: some home output gives m, and each one awaits
+  -- p from the remote to which it went; some remote input takes m, and each one goes to an active
+  -- state whose output is p.
   abbrev pub is_down_pair : ℕ → ℕ → Bool
   is_down_pair m p =
       goes_down m && (goes_up p
       && (some_and_each (gives_message m) (awaits_answer p) (all_rules protocol.home)
-      && some_and_each (takes_message m) (goes_to_only protocol.remote (gives_message p)) (all_rules protocol.remote)))
+      && some_and_each (takes_message m) (goes_to_only protocol.remote (gives_message p))
+      (all_rules protocol.remote)))
 
   abbrev pub is_pair : ℕ → ℕ → Bool
   is_pair m p = is_up_pair m p || is_down_pair m p
@@ -126,7 +126,8 @@ module _ (protocol : NumberedProtocol) where
   abbrev pub paired_with : ℕ → Option ℕ
   paired_with m = find (is_pair m) (range_with_len 0 (length protocol.messages))
 
-  -- The reply of message m: in mode plain none has one, in mode lean each has the one it is paired with.
+  -- The reply of message m: in mode plain none has one, in mode lean each has the one it is paired
+  -- with.
   abbrev pub reply_of : Mode → ℕ → Option ℕ
   reply_of Plain m = None
   reply_of Lean m = paired_with m

@@ -1,9 +1,12 @@
--- A proper numbered protocol: within the limits, all places and numbers in range, types and directions
--- agree, star form and active form hold.
-use Rattle.std.specs.Prelude.{◌≡◌, ℕ, ◌<◌, ◌≤◌, Bool, true, false, List, [], ◌∷◌, length, Option, Some, None}
+-- A proper numbered protocol: within the limits, all places and numbers in range, types and
+-- directions agree, star form and active form hold.
+use Rattle.std.specs.Prelude.{◌≡◌, ℕ, ◌<◌, ◌≤◌, Bool, true, false, List, [], ◌∷◌, length, Option}
+use Rattle.std.specs.Prelude.{Some, None}
 use Rattle.std.specs.List.{list_any, AllByRecursion}
+use Rattle.proto_model.specs.Tokens.{Text}
 use Rattle.proto_model.specs.Numbered.{NumberedProtocol}
-use Rattle.proto_model.specs.RuleTypes.{rule_atom_agrees, rule_assign_agrees, rule_action_agrees, is_directed_rule, is_star_rule}
+use Rattle.proto_model.specs.RuleTypes.{rule_atom_agrees, rule_assign_agrees, rule_action_agrees}
+use Rattle.proto_model.specs.RuleTypes.{is_directed_rule, is_star_rule}
 use Rattle.proto_model.specs.declared.protocol.Carry.{Carry}
 use Rattle.proto_model.specs.declared.protocol.Carry.TheVariants as carry
 use Rattle.proto_model.specs.declared.protocol.VarKind.{VarKind}
@@ -28,6 +31,10 @@ use Rattle.proto_model.specs.declared.numbered.VarInfo.{VarInfo}
 use Rattle.proto_model.specs.declared.numbered.MessageInfo.{MessageInfo}
 use Rattle.proto_model.specs.declared.numbered.Body.{Body}
 
+-- a declared name has at most 32 bytes
+abbrev pub IsShortName : Text → Type 0
+IsShortName name = length name ≤ 32
+
 -- the bound of an int type is from 2 to 65,536
 abbrev pub IsBound : ℕ → Type 0
 IsBound n = (2 ≤ n) × (n ≤ 65536)
@@ -43,7 +50,8 @@ IsProperKind (kind.Int n) = IsBound n
 IsProperKind kind.Node = Unit {0}
 IsProperKind kind.Set = Unit {0}
 
--- the first value of an int is a number below its bound, that of a node is none, that of a set is empty
+-- the first value of an int is a number below its bound, that of a node is none, that of a set is
+-- empty
 abbrev pub IsFirstValue : VarKind → Value → Type 0
 IsFirstValue (kind.Int n) v = (k : ℕ) × (v ≡ value.Int k) × (k < n)
 IsFirstValue kind.Node v = v ≡ value.Nowhere
@@ -52,6 +60,10 @@ IsFirstValue kind.Set v = v ≡ value.Set 0
 pub record IsProperVar (v : VarInfo) : Type 0 where
   pub kind : IsProperKind v.kind
   pub first : IsFirstValue v.kind v.first
+
+-- the bound of each variable that is an int is in range
+abbrev pub AreProperKinds : List VarInfo → Type 0
+AreProperKinds vars = AllByRecursion (λ v. IsProperKind v.kind) vars
 
 -- a number is at most 65,535, a variable is one of so many
 abbrev pub IsTermInRange : ℕ → RuleTerm → Type 0
@@ -111,6 +123,11 @@ pub record IsProperRule (s : Side) (messages : List MessageInfo) (vars : List Va
   pub assigns : AllByRecursion (IsProperAssign vars) r.assigns
   pub next : r.next < states
 
+-- at most 8 conditions and at most 8 assignments
+pub record IsSmallRule (r : Rule) : Type 0 where
+  pub few_conds : length r.conds ≤ 8
+  pub few_assigns : length r.assigns ≤ 8
+
 abbrev pub is_output_kind : RuleKind → Bool
 is_output_kind action.Tau = false
 is_output_kind (action.Input p m bound) = false
@@ -119,22 +136,29 @@ is_output_kind (action.Output p m sent) = true
 -- a remote state with an output has exactly that one rule, without a condition
 abbrev pub IsActiveForm : Side → List Rule → Type 0
 IsActiveForm side.Home rules = Unit {0}
-IsActiveForm side.Remote rules = list_any (λ r. is_output_kind r.kind) rules ≡ true → (r : Rule) × (rules ≡ r ∷ []) × (r.conds ≡ [])
+IsActiveForm side.Remote rules =
+    list_any (λ r. is_output_kind r.kind) rules ≡ true
+    → (r : Rule) × (rules ≡ r ∷ []) × (r.conds ≡ [])
 
 pub record IsProperState (s : Side) (messages : List MessageInfo) (vars : List VarInfo) (states : ℕ) (state : StateInfo) : Type 0 where
+  pub short_name : IsShortName state.name
   pub few_rules : length state.rules ≤ 16
+  pub small_rules : AllByRecursion IsSmallRule state.rules
   pub rules : AllByRecursion (IsProperRule s messages vars states) state.rules
   pub active : IsActiveForm s state.rules
 
 pub record IsProperBody (s : Side) (messages : List MessageInfo) (body : Body) : Type 0 where
   pub few_vars : length body.vars ≤ 16
   pub few_states : length body.states ≤ 64
+  pub short_names : AllByRecursion (λ v. IsShortName v.name) body.vars
   pub vars : AllByRecursion IsProperVar body.vars
   pub start : body.start < length body.states
   pub states : AllByRecursion (IsProperState s messages body.vars (length body.states)) body.states
 
 pub record IsProper (n : NumberedProtocol) : Type 0 where
+  pub short_name : IsShortName n.name
   pub few_messages : length n.messages ≤ 64
+  pub short_names : AllByRecursion (λ m. IsShortName m.name) n.messages
   pub messages : AllByRecursion (λ m. IsProperCarry m.carries) n.messages
   pub home : IsProperBody side.Home n.messages n.home
   pub remote : IsProperBody side.Remote n.messages n.remote

@@ -25,79 +25,96 @@ use Rattle.proto_model.specs.declared.guard.GuardKind.{GuardKind}
 use Rattle.proto_model.specs.declared.guard.GuardKind.TheVariants as action
 use Rattle.proto_model.specs.declared.guard.Guard.{Guard}
 
+-- what a message carries: the size of an int is a number that a file can write
 abbrev pub IsSayableCarry : Carry → Type 0
 IsSayableCarry carry.Nothing = Unit {0}
 IsSayableCarry (carry.Int n) = IsNumber n
 IsSayableCarry carry.Node = Unit {0}
 IsSayableCarry carry.Set = Unit {0}
 
+-- a message: its name is a NAME, and what it carries is sayable
 pub record IsSayableMessage (m : Message) : Type 0 where
   pub name : IsName m.name
   pub carries : IsSayableCarry m.carries
 
+-- the type of a variable: the size of an int is a number that a file can write
 abbrev pub IsSayableKind : VarKind → Type 0
 IsSayableKind (kind.Int n) = IsNumber n
 IsSayableKind kind.Node = Unit {0}
 IsSayableKind kind.Set = Unit {0}
 
+-- the first value of a variable: a number is one that a file can write
 abbrev pub IsSayableInitial : Initial → Type 0
 IsSayableInitial (first.Number n) = IsNumber n
 IsSayableInitial first.Nowhere = Unit {0}
 IsSayableInitial first.Empty = Unit {0}
 
+-- a variable: its name is a NAME, and its type and first value are sayable
 pub record IsSayableVar (v : Var) : Type 0 where
   pub name : IsName v.name
   pub kind : IsSayableKind v.kind
   pub first : IsSayableInitial v.first
 
+-- a term: a number is one that a file can write, and a name is a NAME
 abbrev pub IsSayableTerm : Term → Type 0
 IsSayableTerm (term.Number n) = IsNumber n
 IsSayableTerm (term.Named name) = IsName name
 IsSayableTerm term.Nowhere = Unit {0}
 IsSayableTerm term.Empty = Unit {0}
 
+-- an expression: each of its terms is sayable
 abbrev pub IsSayableExpr : Expr → Type 0
 IsSayableExpr (expr.One t) = IsSayableTerm t
 IsSayableExpr (expr.Plus t u) = IsSayableTerm t × IsSayableTerm u
 IsSayableExpr (expr.Minus t u) = IsSayableTerm t × IsSayableTerm u
 
+-- a condition: both of its sides are sayable
 pub record IsSayableAtom (a : Atom) : Type 0 where
   pub left : IsSayableExpr a.left
   pub right : IsSayableExpr a.right
 
+-- an assignment: its variable is a NAME, and its value is sayable
 pub record IsSayableAssign (a : Assign) : Type 0 where
   pub var : IsName a.var
   pub value : IsSayableExpr a.value
 
+-- the partner of a guard: each variable in it is a NAME
 abbrev pub IsSayablePartner : Partner → Type 0
 IsSayablePartner partner.Home = Unit {0}
 IsSayablePartner (partner.Any x) = IsName x
 IsSayablePartner (partner.Member x s) = IsName x × IsName s
 IsSayablePartner (partner.Named x) = IsName x
 
+-- the variable to which an input binds a value, where there is one, is a NAME
 abbrev pub IsSayableBound : Option Text → Type 0
 IsSayableBound None = Unit {0}
 IsSayableBound (Some x) = IsName x
 
+-- the value that an output sends, where there is one, is sayable
 abbrev pub IsSayableValue : Option Expr → Type 0
 IsSayableValue None = Unit {0}
 IsSayableValue (Some e) = IsSayableExpr e
 
+-- what a guard does: its partner is sayable, its message is a NAME, and what it binds or sends is
+-- sayable
 abbrev pub IsSayableAction : GuardKind → Type 0
 IsSayableAction action.Tau = Unit {0}
 IsSayableAction (action.Input p m bound) = IsSayablePartner p × IsName m × IsSayableBound bound
 IsSayableAction (action.Output p m value) = IsSayablePartner p × IsName m × IsSayableValue value
 
+-- a guard: its action, each condition and each assignment are sayable, and the next state is a NAME
 pub record IsSayableGuard (g : Guard) : Type 0 where
   pub kind : IsSayableAction g.kind
   pub conds : AllByRecursion IsSayableAtom g.conds
   pub assigns : AllByRecursion IsSayableAssign g.assigns
   pub next : IsName g.next
 
+-- a state: its name is a NAME, and each guard is sayable
 pub record IsSayableState (s : State) : Type 0 where
   pub name : IsName s.name
   pub guards : AllByRecursion IsSayableGuard s.guards
 
+-- a process: each variable and each state is sayable, and the first state is a NAME
 pub record IsSayableProcess (p : Process) : Type 0 where
   pub vars : AllByRecursion IsSayableVar p.vars
   pub start : IsName p.start

@@ -7,14 +7,14 @@ use crate::numbered::{Body, MessageInfo, Rule, RuleAssign, RuleAtom, StateInfo, 
 use rv_base::{Items, NoMemory};
 use std::alloc::Global;
 
-/// The parts of a body.
+// The parts of a body.
 trait Copied: Drop {
-    /// An equal value in memory of its own.
+    // An equal value in memory of its own.
     fn copied(&self, alloc: Global) -> Result<Self, NoMemory>
         ensures { IfOk result (λ copy. copy ≡ self.now) };
 }
 
-/// A list of copies of the items, in order.
+// A list of copies of the items, in order.
 fn copied_items<T: Copied>(items: &Items<T>, alloc: Global) -> Result<Items<T>, NoMemory>
     ensures { IfOk result (λ copies. copies ≡ items.now) }
 {

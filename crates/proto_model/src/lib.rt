@@ -1,10 +1,22 @@
-//! What a protocol is and what it means. The named form is as a file gives it; the numbered form is the
-//! one that is computed with. `specs/` has the definitions of a file's tokens, of the grammar and of the
-//! laid-out text, of faults, of values and of the rendezvous meaning, and of requests and their replies.
+//! What a protocol is and what it means. The named form is as a file gives it; the numbered form is
+//! the one that is computed with.
+//!
+//! - `name`, `protocol`, `guard`: the named form.
+//! - `numbered`, `mode`: the numbered form, and the two modes in which it is compiled.
+//! - `rendezvous`: the configurations and events of the rendezvous meaning.
+//! - `values`: how expressions, conditions and guards compute.
+//! - `layout`: the laid-out text of a protocol.
+//! - `texts`: the texts of values, events and processes.
+//! - `copies`: copies of the parts of a protocol.
+//! - `laws`: what follows from the definitions alone.
+//!
+//! `specs/` has the definitions of a file's tokens, of the grammar and of the laid-out text, of
+//! faults, of values, of guards and of the rendezvous meaning, and of requests and their replies.
 #![tactic(auto)]
 
 mod copies;
 mod guard;
+mod laws;
 mod layout;
 mod mode;
 mod name;
@@ -15,6 +27,7 @@ mod texts;
 mod values;
 
 pub use guard::{Assign, Atom, Expr, Guard, GuardKind, Partner, Rel, Term};
+pub use laws::sets_by_members;
 pub use layout::print;
 pub use mode::Mode;
 pub use name::Name;

@@ -21,8 +21,8 @@ pub enum ValueType {
     Set,
 }
 
-/// A value. `Unit` is the value of a message that carries nothing. A node is none (`Nowhere`) or the
-/// number of a remote. Bit j of a set stands for remote j.
+/// A value. `Unit` is the value of a message that carries nothing. A node is none (`Nowhere`) or
+/// the number of a remote. Bit j of a set stands for remote j.
 #[derive(Clone, Copy, Debug, PartialEq, Eq, Drop)]
 pub enum Value {
     Unit,
@@ -74,8 +74,8 @@ pub enum RulePartner {
     Named(u8),
 }
 
-/// What a rule does: a local step; an input of the message at a place, whose value the variable at a
-/// place may get; or an output of the message at a place, which may have a value.
+/// What a rule does: a local step; an input of the message at a place, whose value the variable at
+/// a place may get; or an output of the message at a place, which may have a value.
 #[derive(Clone, Copy, Debug, PartialEq, Eq, Drop)]
 pub enum RuleKind {
     Tau,
@@ -115,7 +115,8 @@ pub struct MessageInfo {
     pub carries: Carry,
 }
 
-/// A process in numbered form: its variables, the place of the state in which it starts, its states.
+/// A process in numbered form: its variables, the place of the state in which it starts, its
+/// states.
 #[derive(Debug, Drop)]
 pub struct Body {
     pub vars: Items<VarInfo>,

@@ -28,7 +28,8 @@ pub fn message_text(
 }
 
 /// Appends the variables of the body with these values, as many as it has: for each one space, its
-/// name, `=` and its value. After `NoMemory` the vector is as before followed by a front of the text.
+/// name, `=` and its value. After `NoMemory` the vector is as before followed by a front of the
+/// text.
 pub fn vars_text(
     _alloc: Global,
     body: &Body,
@@ -41,8 +42,8 @@ pub fn vars_text(
     put_vars(out, Ok(()), body.vars.as_slice(), vars)
 }
 
-/// Appends the rendezvous line of the process of this body that stands so, with its LF: the remote of
-/// this number, or the home where there is no number. After `NoMemory` the vector is as before
+/// Appends the rendezvous line of the process of this body that stands so, with its LF: the remote
+/// of this number, or the home where there is no number. After `NoMemory` the vector is as before
 /// followed by a front of the line.
 pub fn rv_line(
     _alloc: Global,

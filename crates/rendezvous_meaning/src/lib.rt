@@ -1,8 +1,8 @@
 //! The rendezvous meaning of a protocol: a machine that takes one event at a time.
 //!
-//! The home and n remotes stand in states. An event is a local step of one process, or a rendezvous, in
-//! which the home and a remote move together; no message is ever in transit. Whatever is said of the
-//! protocol when its messages travel is measured against this machine.
+//! The home and n remotes stand in states. An event is a local step of one process, or a
+//! rendezvous, in which the home and a remote move together; no message is ever in transit.
+//! Whatever is said of the protocol when its messages travel is measured against this machine.
 //!
 //! - `moves`: where the processes that an event names stand after it.
 //! - `machine`: the machine, which stands in a configuration of its protocol at each moment.

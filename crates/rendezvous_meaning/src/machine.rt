@@ -17,8 +17,9 @@ use std::alloc::Global;
 use std::marker::Model;
 
 /// A machine that takes the events of a protocol one at a time. Contracts see the protocol and the
-/// configuration in which the machine stands, which is one of that protocol: from 1 to 64 remotes, each
-/// state number in range, the variables of each process as many as its body's and of their types.
+/// configuration in which the machine stands, which is one of that protocol: from 1 to 64 remotes,
+/// each state number in range, the variables of each process as many as its body's and of their
+/// types.
 #[derive(Drop)]
 pub struct RvMachine<'a> {
     protocol: &'a Checked,
@@ -30,9 +31,9 @@ impl<'a> Model for RvMachine<'a> {
 
     ghost Value = { Standing };
 
-    ghost view = { λ m. record { protocol = m.protocol.now; config = m.config } };
+    ghost view = { λ m. record { protocol = m.protocol.now.protocol; config = m.config } };
 
-    ghost invariant = { λ m. IsStanding m.protocol.now m.config };
+    ghost invariant = { λ m. IsStanding m.protocol.now.protocol m.config };
 }
 
 impl<'a> RvMachine<'a> {
@@ -40,8 +41,8 @@ impl<'a> RvMachine<'a> {
     /// stands in its start state with its first values.
     pub fn new(alloc: Global, checked: &'a Checked, n: u8) -> Result<RvMachine<'a>, NoMemory>
         requires { (1 ≤ n) × (n ≤ 64) }
-        ensures protocol { IfOk result (λ m. m.protocol ≡ checked.now) }
-        ensures start { IfOk result (λ m. m.config ≡ rv_start checked.now n) }
+        ensures protocol { IfOk result (λ m. m.protocol ≡ checked.now.protocol) }
+        ensures start { IfOk result (λ m. m.config ≡ rv_start checked.now.protocol n) }
     {
         let config = start(alloc, checked, n)?;
         Ok(RvMachine {
@@ -50,22 +51,26 @@ impl<'a> RvMachine<'a> {
         })
     }
 
-    /// Takes the event. Answers whether it takes place: then the machine stands in the one configuration
-    /// that it leads to, and else nothing changes. A number out of range is no event that takes place.
+    /// Takes the event. Answers whether it takes place: then the machine stands in the one
+    /// configuration that it leads to, and else nothing changes. A number out of range is no event
+    /// that takes place.
     pub fn step(&mut self, event: Event) -> bool
         ensures protocol { self.new.protocol ≡ self.old.protocol }
-        ensures moved { OnTrue result (RvStep self.old.protocol self.old.config event self.new.config) }
+        ensures moved { OnTrue result (RvStep self.old.protocol self.old.config event
+            self.new.config) }
         ensures refused { OnFalse result (self.new.config ≡ self.old.config) }
         ensures only { (next : Configuration)
-            → RvStep self.old.protocol self.old.config event next → (result ≡ true) × (self.new.config ≡ next) }
-        ensures computed { Stepped result self.old.config self.new.config (rv_next self.old.protocol self.old.config event) }
+            → RvStep self.old.protocol self.old.config event next → (result ≡ true) ×
+            (self.new.config ≡ next) }
+        ensures computed { Stepped result self.old.config self.new.config
+            (rv_next self.old.protocol self.old.config event) }
     {
         take(self.protocol, &mut self.config, event)
     }
 
     /// The protocol whose events the machine takes.
     pub fn protocol(&self) -> &'a Checked
-        ensures { result.now ≡ self.now.protocol }
+        ensures { result.now.protocol ≡ self.now.protocol }
     {
         self.protocol
     }
@@ -89,7 +94,7 @@ fn start_part(body: &Body) -> Part
     }
 }
 
-/// So many remotes at the start.
+// So many remotes at the start.
 fn start_remotes(alloc: Global, body: &Body, n: u8) -> Result<Items<Part>, NoMemory>
     requires { length body.now.vars ≤ 16 }
     ensures { IfOk result (λ remotes. remotes ≡ replicate n (rendezvous.start_part body.now)) }
@@ -101,10 +106,10 @@ fn start_remotes(alloc: Global, body: &Body, n: u8) -> Result<Items<Part>, NoMem
     Ok(remotes)
 }
 
-/// The home and n remotes at the start.
+// The home and n remotes at the start.
 fn start(alloc: Global, protocol: &Checked, n: u8) -> Result<RvConfig, NoMemory>
-    ensures value { IfOk result (λ config. config ≡ rv_start protocol.now n) }
-    ensures proper { IsProper protocol.now }
+    ensures value { IfOk result (λ config. config ≡ rv_start protocol.now.protocol n) }
+    ensures proper { IsProper protocol.now.protocol }
 {
     let remotes = start_remotes(alloc, protocol.remote(), n)?;
     Ok(RvConfig {
@@ -114,7 +119,8 @@ fn start(alloc: Global, protocol: &Checked, n: u8) -> Result<RvConfig, NoMemory>
 }
 
 fn tau_home(protocol: &Checked, config: &mut RvConfig, rule: u32) -> bool
-    ensures { Stepped result config.old config.new (rv_next protocol.now config.old (Event.TauHome rule)) }
+    ensures { Stepped result config.old config.new (rv_next protocol.now.protocol config.old
+        (Event.TauHome rule)) }
 {
     let Some(home) = tau_part(protocol.home(), &config.home, rule) else {
         return false;
@@ -123,7 +129,7 @@ fn tau_home(protocol: &Checked, config: &mut RvConfig, rule: u32) -> bool
     true
 }
 
-/// Remote j, if there is one.
+// Remote j, if there is one.
 fn remote_at(config: &RvConfig, j: u32) -> Option<Part>
     ensures { result ≡ slice_get config.now.remotes j }
 {
@@ -131,7 +137,8 @@ fn remote_at(config: &RvConfig, j: u32) -> Option<Part>
 }
 
 fn tau_remote(protocol: &Checked, config: &mut RvConfig, j: u32, rule: u32) -> bool
-    ensures { Stepped result config.old config.new (rv_next protocol.now config.old (Event.TauRemote j rule)) }
+    ensures { Stepped result config.old config.new (rv_next protocol.now.protocol config.old
+        (Event.TauRemote j rule)) }
 {
     let Some(remote) = remote_at(config, j) else {
         return false;
@@ -145,7 +152,8 @@ fn tau_remote(protocol: &Checked, config: &mut RvConfig, j: u32, rule: u32) -> b
 
 fn up(protocol: &Checked, config: &mut RvConfig, j: u32, h: u32, r: u32) -> bool
     requires { length config.old.remotes ≤ 64 }
-    ensures { Stepped result config.old config.new (rv_next protocol.now config.old (Event.Up j h r)) }
+    ensures { Stepped result config.old config.new (rv_next protocol.now.protocol config.old
+        (Event.Up j h r)) }
 {
     let Some(remote) = remote_at(config, j) else {
         return false;
@@ -160,7 +168,8 @@ fn up(protocol: &Checked, config: &mut RvConfig, j: u32, h: u32, r: u32) -> bool
 
 fn down(protocol: &Checked, config: &mut RvConfig, j: u32, h: u32, r: u32) -> bool
     requires { length config.old.remotes ≤ 64 }
-    ensures { Stepped result config.old config.new (rv_next protocol.now config.old (Event.Down j h r)) }
+    ensures { Stepped result config.old config.new (rv_next protocol.now.protocol config.old
+        (Event.Down j h r)) }
 {
     let Some(remote) = remote_at(config, j) else {
         return false;
@@ -173,10 +182,11 @@ fn down(protocol: &Checked, config: &mut RvConfig, j: u32, h: u32, r: u32) -> bo
     true
 }
 
-/// Takes the event in this configuration, and answers whether it takes place.
+// Takes the event in this configuration, and answers whether it takes place.
 fn take(protocol: &Checked, config: &mut RvConfig, event: Event) -> bool
     requires { length config.old.remotes ≤ 64 }
-    ensures { Stepped result config.old config.new (rv_next protocol.now config.old event) }
+    ensures { Stepped result config.old config.new (rv_next protocol.now.protocol config.old
+        event) }
 {
     match event {
         Event::TauHome(rule) => tau_home(protocol, config, rule),

@@ -2,6 +2,7 @@
 use Rattle.std.proofs.Common.{◌≡◌, ℕ, zero, suc, ◌+◌, ◌<◌, ◌≤◌, Bool, true, false, List, [], ◌∷◌, ◌++◌, map, length, refl, arith, Some}
 use Rattle.std.specs.Prelude.{slice_get}
 use Rattle.std.specs.List.{AllByRecursion}
+use Rattle.rv_base.proofs.Lists.{AllByRecursion-front, AllByRecursion-back}
 use Rattle.proto_model.specs.Faults.{when, codes_from, states_from, state_codes, guard_codes, Scope, faults_from}
 use Rattle.proto_model.specs.declared.protocol.State.{State}
 
@@ -12,14 +13,6 @@ pub clean : (n : ℕ) (items : List (List ℕ)) → faults_from n items ≡ [] �
 clean n [] e = tt
 clean n ([] ∷ items) e = (refl, clean (n + 1) items e)
 clean n ((code ∷ more) ∷ items) e = absurd (cc)
-
-pub front : {A : Type 0} (P : A → Type 0) (xs ys : List A) → AllByRecursion P (xs ++ ys) → AllByRecursion P xs
-front P [] ys all = tt
-front P (x ∷ xs) ys all = (all.0, front P xs ys all.1)
-
-pub back : {A : Type 0} (P : A → Type 0) (xs ys : List A) → AllByRecursion P (xs ++ ys) → AllByRecursion P ys
-back P [] ys all = all
-back P (x ∷ xs) ys all = back P xs ys all.1
 
 -- the codes of the item at a place
 pub codes_at : {A : Type 0} (f : ℕ → A → List ℕ) (n : ℕ) (xs : List A) → AllByRecursion IsEmpty (codes_from f n xs)
@@ -46,12 +39,15 @@ state_at s n (first ∷ states) all zero state e =
     let here : n + 0 ≡ n = omega arith in
     let own : CleanState s n first = record {
       own = all.0;
-      guards = front IsEmpty (codes_from (guard_codes s) 0 first.guards) (states_from s (n + 1) states) all.1;
+      guards = AllByRecursion-front IsEmpty (codes_from (guard_codes s) 0 first.guards)
+          (states_from s (n + 1) states) all.1;
     } in
     rw (here, ← same) own
 state_at s n (first ∷ states) all (suc k) state e =
     let there : n + suc k ≡ n + 1 + k = omega arith in
-    rw there (state_at s (n + 1) states (back IsEmpty (codes_from (guard_codes s) 0 first.guards) (states_from s (n + 1) states) all.1) k state e)
+    rw there (state_at s (n + 1) states
+    (AllByRecursion-back IsEmpty (codes_from (guard_codes s) 0 first.guards)
+    (states_from s (n + 1) states) all.1) k state e)
 
 -- a code is not there only where its test fails
 pub test_fails : (test : Bool) (code : ℕ) (more : List ℕ) → when test code ++ more ≡ [] → (test ≡ false) × (more ≡ [])
@@ -72,8 +68,3 @@ few zero [] below = omega arith
 few zero (x ∷ xs) below = absurd (let k : 0 < 0 = below 0 x refl in omega arith)
 few (suc most) [] below = omega arith
 few (suc most) (x ∷ xs) below = let rest : length xs ≤ most = few most xs (λ k y e. let more : suc k < suc most = below (suc k) y e in omega arith) in omega arith
-
--- what holds of what each item gives
-pub each_map : {A B : Type 0} (P : B → Type 0) (f : A → B) (xs : List A) → ((k : ℕ) (x : A) → slice_get xs k ≡ Some x → P (f x)) → AllByRecursion P (map f xs)
-each_map P f [] holds = tt
-each_map P f (x ∷ xs) holds = (holds 0 x refl, each_map P f xs (λ k y e. holds (suc k) y e))

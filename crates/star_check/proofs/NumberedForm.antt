@@ -2,7 +2,8 @@
 use Rattle.std.proofs.Common.{◌≡◌, List, map, sym, ap, subst, ◌∙◌}
 use Rattle.proto_model.specs.Tokens.{Text}
 use Rattle.proto_model.specs.Faults.{IsWellFormed}
-use Rattle.proto_model.specs.Numbered.{NumberedProtocol, numbered, numbered_process, numbered_message}
+use Rattle.proto_model.specs.Numbered.{NumberedProtocol, numbered_protocol, numbered_process}
+use Rattle.proto_model.specs.Numbered.{numbered_message}
 use Rattle.proto_model.specs.Proper.{IsProper}
 use Rattle.proto_model.specs.declared.protocol.Message.{Message}
 use Rattle.proto_model.specs.declared.protocol.Process.{Process}
@@ -17,11 +18,14 @@ use Rattle.star_check.proofs.SmallNumbers.{numberable}
 use Rattle.star_check.proofs.WellFormed.{clean_parts, few_messages, well_formed-proper}
 
 -- the body of a scope is that of its process
-body_seen : (c : code.Scope) (s : Side) (messages : List Message) (p : Process) → IsScopeOf c s messages p
+body_seen : (c : code.Scope) (s : Side) (messages : List Message) (p : Process)
+    → IsScopeOf c s messages p
     → numbered_process c.messages.now (process_seen c) ≡ numbered_process messages p
 body_seen c s messages p own =
-    ap (λ t. numbered_process t.messages (record { vars = t.vars; start = c.start.now; states = t.states })) own.seen
-    ∙ ap (λ n. numbered_process messages (record { vars = p.vars; start = n; states = p.states })) own.start_name
+    ap
+    (λ t. numbered_process t.messages (record { vars = t.vars; start = c.start.now; states = t.states })) own.seen
+    ∙ ap
+    (λ n. numbered_process messages (record { vars = p.vars; start = n; states = p.states })) own.start_name
 
 module _ (p : Protocol) (home remote : code.Scope) (own_home : IsScopeOf home side.Home p.messages p.home) (own_remote : IsScopeOf remote side.Remote p.messages p.remote) where
   pub home_numberable : IsWellFormed p → IsNumberable home
@@ -32,18 +36,29 @@ module _ (p : Protocol) (home remote : code.Scope) (own_home : IsScopeOf home si
   pub remote_numberable : IsWellFormed p → IsNumberable remote
   remote_numberable well_formed =
       let clean = clean_parts p well_formed in
-      numberable remote side.Remote p.messages p.remote own_remote clean.remote (few_messages p clean)
+      numberable remote side.Remote p.messages p.remote own_remote clean.remote
+      (few_messages p clean)
 
   pub made-numbered : (name : Text) (messages : List MessageInfo) (home_body remote_body : Body)
       → name ≡ p.name → messages ≡ map numbered_message home.messages.now
-      → home_body ≡ numbered_process home.messages.now (process_seen home) → remote_body ≡ numbered_process remote.messages.now (process_seen remote)
-      → (n : NumberedProtocol) → n ≡ record { name = name; messages = messages; home = home_body; remote = remote_body } → n ≡ numbered p
+      → home_body ≡ numbered_process home.messages.now (process_seen home)
+      → remote_body ≡ numbered_process remote.messages.now (process_seen remote)
+      → (n : NumberedProtocol)
+      → n ≡ record { name = name; messages = messages; home = home_body; remote = remote_body }
+      → n ≡ numbered_protocol p
   made-numbered name messages home_body remote_body is_name are_messages is_home is_remote n made =
       made
-      ∙ ap (λ t. let n : NumberedProtocol = record { name = t; messages = messages; home = home_body; remote = remote_body } in n) is_name
-      ∙ ap (λ t. let n : NumberedProtocol = record { name = p.name; messages = t; home = home_body; remote = remote_body } in n) (are_messages ∙ ap (λ t. map numbered_message t.messages) own_home.seen)
-      ∙ ap (λ t. let n : NumberedProtocol = record { name = p.name; messages = map numbered_message p.messages; home = t; remote = remote_body } in n) (is_home ∙ body_seen home side.Home p.messages p.home own_home)
-      ∙ ap (λ t. let n : NumberedProtocol = record { name = p.name; messages = map numbered_message p.messages; home = numbered_process p.messages p.home; remote = t } in n) (is_remote ∙ body_seen remote side.Remote p.messages p.remote own_remote)
+      ∙ ap
+      (λ t. let n : NumberedProtocol = record { name = t; messages = messages; home = home_body; remote = remote_body } in n) is_name
+      ∙ ap
+      (λ t. let n : NumberedProtocol = record { name = p.name; messages = t; home = home_body; remote = remote_body } in n)
+      (are_messages ∙ ap (λ t. map numbered_message t.messages) own_home.seen)
+      ∙ ap
+      (λ t. let n : NumberedProtocol = record { name = p.name; messages = map numbered_message p.messages; home = t; remote = remote_body } in n)
+      (is_home ∙ body_seen home side.Home p.messages p.home own_home)
+      ∙ ap
+      (λ t. let n : NumberedProtocol = record { name = p.name; messages = map numbered_message p.messages; home = numbered_process p.messages p.home; remote = t } in n)
+      (is_remote ∙ body_seen remote side.Remote p.messages p.remote own_remote)
 
-  pub made-proper : IsWellFormed p → (n : NumberedProtocol) → n ≡ numbered p → IsProper n
+  pub made-proper : IsWellFormed p → (n : NumberedProtocol) → n ≡ numbered_protocol p → IsProper n
   made-proper well_formed n e = subst IsProper (sym e) (well_formed-proper p well_formed)

@@ -7,7 +7,8 @@ ghost use Rattle.proto_model.specs.Proper.{IsProper};
 ghost use Rattle.proto_model.specs.declared.numbered.Side.TheVariants as side;
 ghost use Rattle.star_check.specs.Scopes.{IsScopeOf};
 ghost use Rattle.star_check.specs.Tells.{Tells, Checks};
-ghost use Rattle.star_check.specs.declared.checked.CheckError.TheVariants.{Refused, NoMemory as out_of_memory};
+ghost use Rattle.star_check.specs.declared.checked.CheckError.TheVariants.{Refused};
+ghost use Rattle.star_check.specs.declared.checked.CheckError.TheVariants.{NoMemory as out_of_memory};
 
 use crate::declared::Declared;
 use crate::fault::Fault;
@@ -20,7 +21,8 @@ use std::alloc::Global;
 use std::marker::Model;
 
 /// A well-formed protocol in numbered form: each name that a guard uses is replaced by its place in
-/// file order, counted from 0. Contracts see the numbered protocol, which is proper.
+/// file order, counted from 0. Contracts see what the file says, in
+/// numbered form; the protocol is proper.
 #[derive(Debug, Drop)]
 pub struct Checked {
     name: Name,
@@ -30,50 +32,58 @@ pub struct Checked {
 }
 
 impl Model for Checked {
-    ghost use Rattle.proto_model.specs.Numbered.{NumberedProtocol};
+    ghost use Rattle.proto_model.specs.Numbered.{CheckedProtocol};
     ghost use Rattle.proto_model.specs.Proper.{IsProper};
 
-    ghost Value = { NumberedProtocol };
+    ghost Value = { CheckedProtocol };
 
-    ghost view = { λ c. record { name = c.name; messages = c.messages; home = c.home; remote = c.remote } };
+    ghost view = { λ c. record {
+      protocol = record { name = c.name; messages = c.messages; home = c.home; remote = c.remote };
+    } };
 
-    ghost invariant = { λ c. IsProper (record { name = c.name; messages = c.messages; home = c.home; remote = c.remote }) };
+    ghost invariant = { λ c. IsProper (record {
+      name = c.name;
+      messages = c.messages;
+      home = c.home;
+      remote = c.remote;
+    }) };
 }
 
 impl Checked {
     /// The name of the protocol.
     pub fn name(&self) -> &Name
-        ensures { result.now ≡ self.now.name }
+        ensures { result.now ≡ self.now.protocol.name }
     {
         &self.name
     }
 
     /// The messages in file order.
     pub fn messages(&self) -> &[MessageInfo]
-        ensures value { result.now ≡ self.now.messages }
-        ensures proper { IsProper self.now }
+        ensures value { result.now ≡ self.now.protocol.messages }
+        ensures proper { IsProper self.now.protocol }
     {
         self.messages.as_slice()
     }
 
     /// The process of the home.
     pub fn home(&self) -> &Body
-        ensures value { result.now ≡ self.now.home }
-        ensures proper { IsProper self.now }
+        ensures value { result.now ≡ self.now.protocol.home }
+        ensures proper { IsProper self.now.protocol }
     {
         &self.home
     }
 
     /// The process of each remote.
     pub fn remote(&self) -> &Body
-        ensures value { result.now ≡ self.now.remote }
-        ensures proper { IsProper self.now }
+        ensures value { result.now ≡ self.now.protocol.remote }
+        ensures proper { IsProper self.now.protocol }
     {
         &self.remote
     }
 }
 
-/// Why a protocol was not checked: it has a fault, the first of which is told, or there was no memory.
+/// Why a protocol was not checked: it has a fault, the first of which is told, or there was no
+/// memory.
 #[derive(Clone, Copy, Debug, PartialEq, Eq, Drop)]
 pub enum CheckError {
     Refused(Fault),
@@ -97,8 +107,8 @@ impl From<Fault> for CheckError {
 }
 
 /// Checks the protocol, which is given up in each case. Answers its numbered form exactly where no
-/// item has a fault; else `Refused` with the fault of the least item that has one, and the least code
-/// of that item. Want of memory alone may keep either from coming.
+/// item has a fault; else `Refused` with the fault of the least item that has one, and the least
+/// code of that item. Want of memory alone may keep either from coming.
 pub fn check(alloc: Global, protocol: Protocol) -> Result<Checked, CheckError>
     ensures ok { IfOk result (λ checked. IsWellFormed protocol × (checked ≡ numbered protocol)) }
     ensures refused { IfErr result (λ error. Tells error (first_fault protocol)) }

@@ -1,6 +1,7 @@
 //! The declarations of a kind, looked up by name.
 
-ghost use Rattle.std.specs.Prelude.{◌≡◌, ℕ, ◌<◌, List, map, length, IfOk, IfSome, slice_get, option_copied, take};
+ghost use Rattle.std.specs.Prelude.{◌≡◌, ℕ, ◌<◌, List, map, length, IfOk, IfSome, slice_get};
+ghost use Rattle.std.specs.Prelude.{option_copied, take};
 ghost use Rattle.std.specs.Option.{option_and_then};
 ghost use Rattle.proto_model.specs.Tokens.{Text};
 ghost use Rattle.proto_model.specs.Names.{place_of, is_declared};
@@ -107,7 +108,8 @@ impl<'a, T: Declaration> Declared<'a, T> {
 
     /// What the name means; none where it is not declared.
     pub(crate) fn named(&self, name: &Name) -> Option<&'a T>
-        ensures { option_copied result ≡ option_and_then (λ place. slice_get self.now place) (place_of name.now (map T.name_of self.now)) }
+        ensures { option_copied result ≡ option_and_then (λ place. slice_get self.now place)
+            (place_of name.now (map T.name_of self.now)) }
     {
         match self.place(name) {
             Some(place) => self.items.get(place),
@@ -116,7 +118,7 @@ impl<'a, T: Declaration> Declared<'a, T> {
     }
 }
 
-/// The place of the first declaration of each name.
+// The place of the first declaration of each name.
 fn numbering<'a, T: Declaration>(
     alloc: Global,
     items: &'a [T],

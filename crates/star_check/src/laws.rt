@@ -9,7 +9,7 @@ use proto_model::Protocol;
 /// The numbered form of a well-formed protocol is proper.
 pub fn well_formed_is_proper(protocol: &Protocol)
     requires { IsWellFormed protocol.now }
-    ensures { IsProper (numbered protocol.now) }
+    ensures { IsProper (numbered protocol.now).protocol }
 {
     let _ = protocol;
 }

@@ -18,7 +18,7 @@ use rv_base::{Items, NoMemory};
 use std::alloc::Global;
 
 impl<T: Declaration> Declared<'_, T> {
-    /// The place of what the name means, 0 where it is not declared.
+    // The place of what the name means, 0 where it is not declared.
     fn number(&self, name: &Name) -> u8
         requires { length self.now ≤ 64 }
         ensures { result ≡ spec.place_or_zero name.now (map T.name_of self.now) }
@@ -75,7 +75,7 @@ impl Declared<'_, Var> {
     }
 }
 
-/// What has a numbered form in a scope `S` of names.
+// What has a numbered form in a scope `S` of names.
 trait Numbered<S> {
     type Form: Drop;
 
@@ -87,14 +87,14 @@ trait Numbered<S> {
     /// The scope has few enough names for their places to fit.
     ghost is_small: { S → Type 0 };
 
-    /// Its numbered form.
+    // Its numbered form.
     fn numbered(&self, alloc: Global, scope: &S) -> Result<Self::Form, NoMemory>
         requires small { is_small scope.now }
         requires fits { is_large self.now ≡ false }
         ensures { IfOk result (λ f. f ≡ form scope.now self.now) };
 }
 
-/// The numbered forms of the items, in order.
+// The numbered forms of the items, in order.
 fn numbered_items<S, T: Numbered<S>>(
     alloc: Global,
     scope: &S,
@@ -285,7 +285,8 @@ pub(crate) fn number_messages(
 /// The body of the process of this scope.
 pub(crate) fn number_body(alloc: Global, scope: &Scope) -> Result<Body, NoMemory>
     requires { IsNumberable scope.now }
-    ensures { IfOk result (λ body. body ≡ spec.numbered_process scope.now.messages.now (process_seen scope.now)) }
+    ensures { IfOk result (λ body. body ≡ spec.numbered_process scope.now.messages.now
+        (process_seen scope.now)) }
 {
     Ok(Body {
         vars: numbered_items(alloc, &(), scope.vars.items())?,

@@ -47,7 +47,8 @@ impl<'m, 'a> Scope<'m, 'a> {
 
 impl Scope<'_, '_> {
     fn knows_action(&self, kind: &GuardKind) -> bool
-        ensures { result ≡ known.knows_action self.now.vars self.now.side self.now.messages.now kind.now }
+        ensures { result ≡ known.knows_action self.now.vars self.now.side self.now.messages.now
+            kind.now }
     {
         match kind {
             GuardKind::Tau => true,
@@ -66,7 +67,8 @@ impl Scope<'_, '_> {
 
     /// Whether each variable, message and state that the guard uses is declared.
     pub(crate) fn knows_guard(&self, guard: &Guard) -> bool
-        ensures { result ≡ known.knows_guard self.now.side self.now.messages.now self.now.vars self.now.states guard.now }
+        ensures { result ≡ known.knows_guard self.now.side self.now.messages.now self.now.vars
+            self.now.states guard.now }
     {
         self.knows_action(&guard.kind)
             && self.vars.knows_atoms(guard.conds.as_slice())
@@ -75,7 +77,8 @@ impl Scope<'_, '_> {
     }
 
     fn action_agrees(&self, kind: &GuardKind) -> bool
-        ensures { result ≡ agreement.action_agrees self.now.vars self.now.side self.now.messages.now kind.now }
+        ensures { result ≡ agreement.action_agrees self.now.vars self.now.side self.now.messages.now
+            kind.now }
     {
         match kind {
             GuardKind::Tau => true,
@@ -96,7 +99,8 @@ impl Scope<'_, '_> {
 
     /// Whether the types of the guard agree.
     pub(crate) fn guard_agrees(&self, guard: &Guard) -> bool
-        ensures { result ≡ agreement.guard_agrees self.now.side self.now.messages.now self.now.vars guard.now }
+        ensures { result ≡ agreement.guard_agrees self.now.side self.now.messages.now self.now.vars
+            guard.now }
     {
         self.action_agrees(&guard.kind)
             && self.vars.atoms_agree(guard.conds.as_slice())

@@ -21,7 +21,7 @@ fn type_of_kind(kind: VarKind) -> ValueType
     }
 }
 
-/// The type of the value that a message carries, none where it carries nothing.
+// The type of the value that a message carries, none where it carries nothing.
 fn type_carried(carry: Carry) -> Option<ValueType>
     ensures { result ≡ types.carried_type carry }
 {
@@ -48,7 +48,7 @@ fn is_type(wanted: ValueType, found: Option<ValueType>) -> bool
     }
 }
 
-/// Whether there are two types, and they are the same.
+// Whether there are two types, and they are the same.
 fn is_one_type(left: Option<ValueType>, right: Option<ValueType>) -> bool
     ensures { result ≡ types.are_of_one_type left right }
 {
@@ -167,10 +167,11 @@ impl Declared<'_, Var> {
         }
     }
 
-    /// Whether the variable that gets the value of an input is of the type that the message carries,
-    /// where there is one.
+    /// Whether the variable that gets the value of an input is of the type that the message
+    /// carries, where there is one.
     pub(crate) fn bound_agrees(&self, carried: Option<ValueType>, bound: &Option<Name>) -> bool
-        ensures { result ≡ types.bound_agrees carried (option_map (spec.var_type self.now) bound.now) }
+        ensures { result ≡ types.bound_agrees carried
+            (option_map (spec.var_type self.now) bound.now) }
     {
         match bound {
             Some(name) => is_one_type(carried, self.type_of_var(name)),
@@ -180,7 +181,8 @@ impl Declared<'_, Var> {
 
     /// Whether an output has a value exactly where its message carries one, and of its type.
     pub(crate) fn value_agrees(&self, carried: Option<ValueType>, value: &Option<Expr>) -> bool
-        ensures { result ≡ types.value_agrees carried (option_map (spec.expr_type self.now) value.now) }
+        ensures { result ≡ types.value_agrees carried
+            (option_map (spec.expr_type self.now) value.now) }
     {
         match value {
             Some(expr) => is_one_type(carried, self.type_of_expr(expr)),

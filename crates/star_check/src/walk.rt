@@ -1,17 +1,18 @@
 //! The first fault of a protocol, item by item in file order.
 
-ghost use Rattle.std.specs.Prelude.{[], ◌∷◌, ◌++◌, ◌≡◌, ◌+◌, ◌<◌, ◌≤◌, ℕ, List, length, IfNone, IfOk};
+ghost use Rattle.std.specs.Prelude.{[], ◌∷◌, ◌++◌, ◌≡◌, ◌+◌, ◌<◌, ◌≤◌, ℕ, List, length, IfNone};
+ghost use Rattle.std.specs.Prelude.{IfOk};
 ghost use Rattle.proto_model.specs.Faults as spec;
 ghost use Rattle.star_check.specs.Passes.{Passes, Finds};
 ghost use Rattle.star_check.specs.Scopes.{scope_seen};
 
-use crate::codes::{guard_code, message_code, name_code, start_code, state_code, var_code};
 use crate::declared::Declared;
 use crate::fault::Fault;
+use crate::item_codes::{guard_code, message_code, name_code, start_code, state_code, var_code};
 use crate::scope::Scope;
 use proto_model::{Guard, Message, Name, Var};
 
-/// Items of one kind that stand one after another. Each past the 64th has a code.
+// Items of one kind that stand one after another. Each past the 64th has a code.
 trait Row {
     type Item;
 
@@ -19,11 +20,11 @@ trait Row {
 
     ghost codes_at: { Self → ℕ → Self.Item → List ℕ };
 
-    /// The items in file order.
+    // The items in file order.
     fn listed(&self) -> &[Self::Item]
         ensures { result.now ≡ items_of self.now };
 
-    /// The least code of the item at this place of the row.
+    // The least code of the item at this place of the row.
     fn code(&self, place: usize, item: &Self::Item) -> Option<u8>
         ensures code { result ≡ spec.first (codes_at self.now place item.now) }
         ensures few { IfNone result (place < 64) };
@@ -61,7 +62,7 @@ impl Row for Declared<'_, Var> {
     }
 }
 
-/// The guards of a state of this process.
+// The guards of a state of this process.
 #[derive(Clone, Copy)]
 struct Guards<'s, 'm, 'a> {
     scope: &'s Scope<'m, 'a>,
@@ -84,10 +85,11 @@ impl Row for Guards<'_, '_, '_> {
     }
 }
 
-/// Passes over a row whose first item has this number. Answers the number behind its last item.
+// Passes over a row whose first item has this number. Answers the number behind its last item.
 fn check_row<R: Row>(row: &R, start: u32) -> Result<u32, Fault>
     requires { start < 10000 }
-    ensures passes { Passes result start (spec.codes_from (R.codes_at row.now) 0 (R.items_of row.now)) }
+    ensures passes { Passes result start (spec.codes_from (R.codes_at row.now) 0
+        (R.items_of row.now)) }
     ensures few { IfOk result (λ next. next ≤ start + 64) }
 {
     let items = row.listed();
@@ -102,7 +104,8 @@ fn check_row<R: Row>(row: &R, start: u32) -> Result<u32, Fault>
 
 fn check_guards(scope: &Scope, guards: &[Guard], start: u32) -> Result<u32, Fault>
     requires { start < 10000 }
-    ensures passes { Passes result start (spec.codes_from (spec.guard_codes (scope_seen scope.now)) 0 guards.now) }
+    ensures passes { Passes result start (spec.codes_from (spec.guard_codes (scope_seen scope.now))
+        0 guards.now) }
     ensures few { IfOk result (λ next. next ≤ start + 64) }
 {
     check_row(
@@ -114,10 +117,11 @@ fn check_guards(scope: &Scope, guards: &[Guard], start: u32) -> Result<u32, Faul
     )
 }
 
-/// Passes over the states of a process and their guards.
+// Passes over the states of a process and their guards.
 fn check_states(scope: &Scope, start: u32) -> Result<u32, Fault>
     requires { start < 5100 }
-    ensures passes { Passes result start (spec.states_from (scope_seen scope.now) 0 scope.now.states) }
+    ensures passes { Passes result start (spec.states_from (scope_seen scope.now) 0
+        scope.now.states) }
     ensures few { IfOk result (λ next. next ≤ start + 4160) }
 {
     let mut next = start;
@@ -130,10 +134,11 @@ fn check_states(scope: &Scope, start: u32) -> Result<u32, Fault>
     Ok(next)
 }
 
-/// Passes over the items of a process behind its first word.
+// Passes over the items of a process behind its first word.
 fn check_process(scope: &Scope, first: u32) -> Result<u32, Fault>
     requires { first < 5000 }
-    ensures passes { Passes result first (spec.process_codes (scope_seen scope.now) scope.now.start.now) }
+    ensures passes { Passes result first (spec.process_codes (scope_seen scope.now)
+        scope.now.start.now) }
     ensures few { IfOk result (λ next. next ≤ first + 4225) }
 {
     let start = check_row(&scope.vars, first)?;
@@ -150,7 +155,9 @@ pub(crate) fn check_items(
     home: &Scope,
     remote: &Scope,
 ) -> Result<(), Fault>
-    ensures { Finds result (spec.name_codes name.now ∷ (spec.codes_from (spec.message_codes messages.now) 0 messages.now
+    ensures { Finds result
+        (spec.name_codes name.now ∷ (spec.codes_from (spec.message_codes messages.now) 0
+        messages.now
         ++ [] ∷ (spec.process_codes (scope_seen home.now) home.now.start.now
         ++ [] ∷ spec.process_codes (scope_seen remote.now) remote.now.start.now))) }
 {

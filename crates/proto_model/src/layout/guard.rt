@@ -11,7 +11,7 @@ use crate::layout::writer::Writer;
 use crate::name::Name;
 
 impl Writer {
-    /// A term, which is one token.
+    // A term, which is one token.
     fn term(&mut self, term: &Term)
         ensures { Lays (words (grammar.term_token term.now ∷ [])) self.old self.new }
     {
@@ -23,7 +23,7 @@ impl Writer {
         }
     }
 
-    /// A term, or two with the sign between them.
+    // A term, or two with the sign between them.
     fn expr(&mut self, expr: &Expr)
         ensures { Lays (words (grammar.expr_tokens expr.now)) self.old self.new }
     {
@@ -42,7 +42,7 @@ impl Writer {
         }
     }
 
-    /// A relation, which is one token.
+    // A relation, which is one token.
     fn relation(&mut self, relation: Rel)
         ensures { Lays (words (grammar.rel_token relation ∷ [])) self.old self.new }
     {
@@ -56,7 +56,7 @@ impl Writer {
         });
     }
 
-    /// A condition.
+    // A condition.
     fn atom(&mut self, atom: &Atom)
         ensures { Lays (words (grammar.atom_tokens atom.now)) self.old self.new }
     {
@@ -65,7 +65,7 @@ impl Writer {
         self.expr(&atom.right);
     }
 
-    /// The conditions of a guard: `when` stands before the first, `and` before each other one.
+    // The conditions of a guard: `when` stands before the first, `and` before each other one.
     fn conditions(&mut self, atoms: &[Atom])
         ensures { Lays (words (grammar.conds_tokens atoms.now)) self.old self.new }
     {
@@ -79,7 +79,7 @@ impl Writer {
         }
     }
 
-    /// An assignment.
+    // An assignment.
     fn assign(&mut self, assign: &Assign)
         ensures { Lays (words (grammar.assign_tokens assign.now)) self.old self.new }
     {
@@ -88,7 +88,7 @@ impl Writer {
         self.expr(&assign.value);
     }
 
-    /// The assignments of a guard: `do` stands before the first, a comma before each other one.
+    // The assignments of a guard: `do` stands before the first, a comma before each other one.
     fn assigns(&mut self, assigns: &[Assign])
         ensures { Lays (words (grammar.assigns_tokens assigns.now)) self.old self.new }
     {
@@ -102,7 +102,7 @@ impl Writer {
         }
     }
 
-    /// With whom a guard meets.
+    // With whom a guard meets.
     fn partner(&mut self, partner: &Partner)
         ensures { Lays (words (grammar.partner_tokens partner.now)) self.old self.new }
     {
@@ -122,7 +122,7 @@ impl Writer {
         }
     }
 
-    /// The variable that an input binds, if it binds one, in parentheses.
+    // The variable that an input binds, if it binds one, in parentheses.
     fn bound(&mut self, bound: &Option<Name>)
         ensures { Lays (words (grammar.bound_tokens bound.now)) self.old self.new }
     {
@@ -133,7 +133,7 @@ impl Writer {
         }
     }
 
-    /// The value of an output, if it has one, in parentheses.
+    // The value of an output, if it has one, in parentheses.
     fn value(&mut self, value: &Option<Expr>)
         ensures { Lays (words (grammar.value_tokens value.now)) self.old self.new }
     {
@@ -144,7 +144,7 @@ impl Writer {
         }
     }
 
-    /// What a guard does.
+    // What a guard does.
     fn action(&mut self, kind: &GuardKind)
         ensures { Lays (words (grammar.action_tokens kind.now)) self.old self.new }
     {
@@ -167,9 +167,10 @@ impl Writer {
         }
     }
 
-    /// The name of the next state.
+    // The name of the next state.
     fn goto(&mut self, next: &Name)
-        ensures { Lays (words (part (codes "goto") ∷ part next.now ∷ grammar.semicolon ∷ [])) self.old self.new }
+        ensures { Lays (words (part (codes "goto") ∷ part next.now ∷ grammar.semicolon ∷ []))
+            self.old self.new }
     {
         self.word(b"goto");
         self.word(next.bytes());

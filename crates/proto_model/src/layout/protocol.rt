@@ -14,14 +14,14 @@ use crate::name::Name;
 use crate::protocol::{Carry, Initial, Message, Process, Protocol, State, Var, VarKind};
 
 impl Writer {
-    /// The direction of a message.
+    // The direction of a message.
     fn direction(&mut self, up: bool)
         ensures { Lays (words (grammar.direction_token up ∷ [])) self.old self.new }
     {
         self.word(if up { b"up" } else { b"down" });
     }
 
-    /// The type of what a message carries, if it carries anything.
+    // The type of what a message carries, if it carries anything.
     fn carry(&mut self, carry: Carry)
         ensures { Lays (words (grammar.carry_tokens carry)) self.old self.new }
     {
@@ -36,7 +36,7 @@ impl Writer {
         }
     }
 
-    /// A message.
+    // A message.
     fn message(&mut self, message: &Message)
         ensures { Lays (words (grammar.message_tokens message.now)) self.old self.new }
     {
@@ -47,7 +47,7 @@ impl Writer {
         self.word(b";");
     }
 
-    /// The type of a variable.
+    // The type of a variable.
     fn kind(&mut self, kind: VarKind)
         ensures { Lays (words (grammar.kind_tokens kind)) self.old self.new }
     {
@@ -61,7 +61,7 @@ impl Writer {
         }
     }
 
-    /// The first value of a variable.
+    // The first value of a variable.
     fn initial(&mut self, first: Initial)
         ensures { Lays (words (grammar.initial_token first ∷ [])) self.old self.new }
     {
@@ -72,7 +72,7 @@ impl Writer {
         }
     }
 
-    /// A variable.
+    // A variable.
     fn var(&mut self, var: &Var)
         ensures { Lays (words (grammar.var_tokens var.now)) self.old self.new }
     {
@@ -84,9 +84,10 @@ impl Writer {
         self.word(b";");
     }
 
-    /// The line of each message.
+    // The line of each message.
     fn messages(&mut self, messages: &[Message])
-        ensures { Lays (marks_of (map (λ m. spec.at 0 (grammar.message_tokens m)) messages.now)) self.old self.new }
+        ensures { Lays (marks_of (map (λ m. spec.at 0 (grammar.message_tokens m)) messages.now))
+            self.old self.new }
     {
         for message in messages {
             self.indent(0);
@@ -95,9 +96,10 @@ impl Writer {
         }
     }
 
-    /// The line of each variable.
+    // The line of each variable.
     fn vars(&mut self, vars: &[Var])
-        ensures { Lays (marks_of (map (λ v. spec.at 2 (grammar.var_tokens v)) vars.now)) self.old self.new }
+        ensures { Lays (marks_of (map (λ v. spec.at 2 (grammar.var_tokens v)) vars.now)) self.old
+            self.new }
     {
         for var in vars {
             self.indent(2);
@@ -106,9 +108,10 @@ impl Writer {
         }
     }
 
-    /// The line of each guard.
+    // The line of each guard.
     fn guards(&mut self, guards: &[Guard])
-        ensures { Lays (marks_of (map (λ g. spec.at 4 (grammar.guard_tokens g)) guards.now)) self.old self.new }
+        ensures { Lays (marks_of (map (λ g. spec.at 4 (grammar.guard_tokens g)) guards.now))
+            self.old self.new }
     {
         for guard in guards {
             self.indent(4);
@@ -117,7 +120,7 @@ impl Writer {
         }
     }
 
-    /// The line that closes a state or a process.
+    // The line that closes a state or a process.
     fn closing(&mut self, indent: usize)
         ensures { Lays (line_marks (spec.at indent (grammar.closing ∷ []))) self.old self.new }
     {
@@ -126,7 +129,7 @@ impl Writer {
         self.end_line();
     }
 
-    /// The lines of a state.
+    // The lines of a state.
     fn state(&mut self, state: &State)
         ensures { Lays (marks_of (spec.state_lines state.now)) self.old self.new }
     {
@@ -139,7 +142,7 @@ impl Writer {
         self.closing(2);
     }
 
-    /// The lines of each state.
+    // The lines of each state.
     fn states(&mut self, states: &[State])
         ensures { Lays (marks_of (flat_map spec.state_lines states.now)) self.old self.new }
     {
@@ -148,9 +151,11 @@ impl Writer {
         }
     }
 
-    /// A line that gives a name, of the protocol or of the state in which a process starts.
+    // A line that gives a name, of the protocol or of the state in which a process starts.
     fn naming(&mut self, indent: usize, word: &[u8], name: &Name)
-        ensures { Lays (line_marks (spec.at indent (item word.now ∷ part name.now ∷ grammar.semicolon ∷ []))) self.old self.new }
+        ensures { Lays
+            (line_marks (spec.at indent (item word.now ∷ part name.now ∷ grammar.semicolon ∷ [])))
+            self.old self.new }
     {
         self.indent(indent);
         self.word(word);
@@ -159,9 +164,10 @@ impl Writer {
         self.end_line();
     }
 
-    /// The line that opens a process.
+    // The line that opens a process.
     fn opening(&mut self, role: &[u8])
-        ensures { Lays (line_marks (spec.at 0 (item role.now ∷ grammar.opening ∷ []))) self.old self.new }
+        ensures { Lays (line_marks (spec.at 0 (item role.now ∷ grammar.opening ∷ []))) self.old
+            self.new }
     {
         self.indent(0);
         self.word(role);
@@ -169,9 +175,10 @@ impl Writer {
         self.end_line();
     }
 
-    /// The lines of a process, the home's or the remotes'.
+    // The lines of a process, the home's or the remotes'.
     fn process(&mut self, role: &[u8], process: &Process)
-        ensures { Lays (marks_of (spec.at 0 (item role.now ∷ grammar.opening ∷ []) ∷ spec.body_lines process.now)) self.old self.new }
+        ensures { Lays (marks_of (spec.at 0 (item role.now ∷ grammar.opening ∷ []) ∷ spec.body_lines
+            process.now)) self.old self.new }
     {
         self.opening(role);
         self.vars(process.vars.as_slice());

@@ -111,7 +111,7 @@ fn sends(
     Ok(GuardKind::Output(partner, Name::new(alloc, message)?, value))
 }
 
-/// The condition that a variable stands in the relation to a term.
+// The condition that a variable stands in the relation to a term.
 fn atom(alloc: Global, var: &[u8], rel: Rel, right: Term) -> Result<Atom, NoMemory>
     requires { AllWord var.now }
 {
@@ -143,7 +143,7 @@ fn variable(alloc: Global) -> Result<Partner, NoMemory> {
     Ok(Partner::Named(Name::new(alloc, b"x")?))
 }
 
-/// The third guard of the state `Idle`.
+// The third guard of the state `Idle`.
 fn member_input(alloc: Global) -> Result<Guard, NoMemory> {
     let conds = items![alloc;
         atom(alloc, b"x", Rel::Inside, named(alloc, b"s")?)?,
@@ -157,7 +157,7 @@ fn member_input(alloc: Global) -> Result<Guard, NoMemory> {
     guard(alloc, kind, conds, assigns, b"Idle")
 }
 
-/// The sixth guard of the state `Idle`.
+// The sixth guard of the state `Idle`.
 fn member_output(alloc: Global) -> Result<Guard, NoMemory> {
     let sum = Expr::Plus(named(alloc, b"n")?, Term::Number(1));
     let conds = items![alloc;

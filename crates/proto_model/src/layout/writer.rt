@@ -9,21 +9,21 @@ ghost use Rattle.proto_model.specs.Marks.{Puts, Stands, Lays, Indent, Word, Line
 use itoa::Buffer;
 use rv_base::NoMemory;
 
-/// Whether no space stands before the token.
+// Whether no space stands before the token.
 fn hugs_left(token: &[u8]) -> bool
     ensures { result ≡ spec.hugs_left token.now }
 {
     matches!(token, [b';' | b',' | b'(' | b')'])
 }
 
-/// Whether no space stands after the token.
+// Whether no space stands after the token.
 fn hugs_right(token: &[u8]) -> bool
     ensures { result ≡ spec.hugs_right token.now }
 {
     matches!(token, [b'('])
 }
 
-/// The space that is due before the token.
+// The space that is due before the token.
 fn space_before(tight: bool, token: &[u8]) -> &'static [u8]
     ensures { result.now ≡ marks.space_before tight token.now }
 {
@@ -92,7 +92,7 @@ impl Writer {
         self.tight = true;
     }
 
-    /// Appends the bytes, unless memory ran out before.
+    // Appends the bytes, unless memory ran out before.
     fn put(&mut self, bytes: &[u8])
         ensures { Puts bytes.now self.old self.new }
     {

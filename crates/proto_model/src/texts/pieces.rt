@@ -29,14 +29,14 @@ fn put_number(out: &mut Vec<u8>, so_far: Put, number: u32) -> Put
     put(out, so_far, Buffer::new().format(number).as_bytes())
 }
 
-/// What stands before a member of a set.
+// What stands before a member of a set.
 fn separator(first: bool) -> &'static [u8]
     ensures { result.now ≡ texts.separator first }
 {
     if first { b"" } else { b"," }
 }
 
-/// A member of a set, the first or a later one.
+// A member of a set, the first or a later one.
 fn put_member(out: &mut Vec<u8>, so_far: Put, first: bool, node: u8) -> Put
     ensures { Continues (texts.member_text first node) so_far out.old.items result out.new.items }
 {
@@ -76,9 +76,10 @@ fn put_value(out: &mut Vec<u8>, so_far: Put, value: Value) -> Put
     }
 }
 
-/// The value in brackets, where the message carries one.
+// The value in brackets, where the message carries one.
 fn put_carried(out: &mut Vec<u8>, so_far: Put, carries: Carry, value: Value) -> Put
-    ensures { Continues (texts.carried_text carries value) so_far out.old.items result out.new.items }
+    ensures { Continues (texts.carried_text carries value) so_far out.old.items result
+        out.new.items }
 {
     match carries {
         Carry::Nothing => so_far,
@@ -96,7 +97,8 @@ pub(super) fn put_message(
     message: &MessageInfo,
     value: Value,
 ) -> Put
-    ensures { Continues (texts.message_text message.now value) so_far out.old.items result out.new.items }
+    ensures { Continues (texts.message_text message.now value) so_far out.old.items result
+        out.new.items }
 {
     let so_far = put(out, so_far, message.name.bytes());
     put_carried(out, so_far, message.carries, value)
@@ -113,7 +115,8 @@ fn put_var(out: &mut Vec<u8>, so_far: Put, info: &VarInfo, value: Value) -> Put
 
 pub(super) fn put_vars(out: &mut Vec<u8>, mut so_far: Put, infos: &[VarInfo], vars: &Vars) -> Put
     requires { length vars.now ≡ length infos.now }
-    ensures { Continues (texts.vars_text infos.now vars.now) so_far out.old.items result out.new.items }
+    ensures { Continues (texts.vars_text infos.now vars.now) so_far out.old.items result
+        out.new.items }
 {
     for place in 0..vars.len() {
         let value = vars.at(place).unwrap_or(Value::Unit);
@@ -122,7 +125,7 @@ pub(super) fn put_vars(out: &mut Vec<u8>, mut so_far: Put, infos: &[VarInfo], va
     so_far
 }
 
-/// What the line of the remote of this number, or of the home, begins with.
+// What the line of the remote of this number, or of the home, begins with.
 fn put_process(out: &mut Vec<u8>, so_far: Put, remote: Option<u8>) -> Put
     ensures { Continues (texts.process_text remote) so_far out.old.items result out.new.items }
 {
@@ -136,7 +139,7 @@ fn put_process(out: &mut Vec<u8>, so_far: Put, remote: Option<u8>) -> Put
     }
 }
 
-/// The name of the state in which the process stands.
+// The name of the state in which the process stands.
 fn state_name<'a>(body: &'a Body, part: &Part) -> &'a [u8]
     requires { part.now.state < length body.now.states }
     ensures { result.now ≡ texts.state_name body.now part.now }
@@ -154,7 +157,8 @@ pub(super) fn put_line(
 ) -> Put
     requires state { part.now.state < length body.now.states }
     requires vars { length part.now.vars ≡ length body.now.vars }
-    ensures { Continues (texts.rv_line body.now part.now remote) so_far out.old.items result out.new.items }
+    ensures { Continues (texts.rv_line body.now part.now remote) so_far out.old.items result
+        out.new.items }
 {
     let so_far = put_process(out, so_far, remote);
     let so_far = put(out, so_far, state_name(body, part));
@@ -162,7 +166,7 @@ pub(super) fn put_line(
     put(out, so_far, b"\n")
 }
 
-/// A space, and a number.
+// A space, and a number.
 fn put_argument(out: &mut Vec<u8>, so_far: Put, number: u32) -> Put
     ensures { Continues (texts.argument number) so_far out.old.items result out.new.items }
 {

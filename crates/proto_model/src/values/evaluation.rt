@@ -14,7 +14,7 @@ use crate::protocol::Carry;
 use crate::values::node_sets::{has_node, with_node, without_node};
 use crate::values::vars::Vars;
 
-/// The value of the variable at this place; `Unit` past the end.
+// The value of the variable at this place; `Unit` past the end.
 fn var_value(vars: &Vars, place: u8) -> Value
     ensures { result ≡ values.var_value vars.now place }
 {
@@ -146,8 +146,8 @@ fn is_target_of(partner: RulePartner, vars: &Vars, node: u8) -> bool
     }
 }
 
-/// Whether the remote is a target of the rule. A local step and a rule whose partner is the home have
-/// none.
+/// Whether the remote is a target of the rule. A local step and a rule whose partner is the home
+/// have none.
 pub fn is_target(rule: &Rule, vars: &Vars, node: u8) -> bool
     ensures { result ≡ values.may_meet vars.now rule.now.kind node }
 {
@@ -163,7 +163,8 @@ pub fn is_target(rule: &Rule, vars: &Vars, node: u8) -> bool
 pub fn targets(rule: &Rule, vars: &Vars, n: u8) -> u64
     requires { n ≤ 64 }
     ensures value { result ≡ values.target_set vars.now rule.now n }
-    ensures members { (j : ℕ) → has_member result j ≡ (nat_lt j n && values.may_meet vars.now rule.now.kind j) }
+    ensures members { (j : ℕ) → has_member result j ≡ (nat_lt j n && values.may_meet vars.now
+        rule.now.kind j) }
 {
     let mut set = 0;
     for node in 0..n {
@@ -185,7 +186,7 @@ pub(super) fn modulo(value: Value, bound: u32) -> Value
     }
 }
 
-/// The value as a message that carries this sends it.
+// The value as a message that carries this sends it.
 fn reduced(carries: Carry, value: Value) -> Value
     requires { IsProperCarry carries }
     ensures { result ≡ values.reduced carries value }
@@ -196,7 +197,7 @@ fn reduced(carries: Carry, value: Value) -> Value
     }
 }
 
-/// The value of what stands behind an output; `Unit` where nothing does.
+// The value of what stands behind an output; `Unit` where nothing does.
 fn offered(sent: Option<RuleExpr>, vars: &Vars) -> Value
     ensures { result ≡ values.offered vars.now sent }
 {
@@ -206,14 +207,15 @@ fn offered(sent: Option<RuleExpr>, vars: &Vars) -> Value
     }
 }
 
-/// The value that an output of a message that carries this sends, reduced modulo n where the message
-/// carries `int n`. Where the rule is proper and the variables are of their types, it is of the type
-/// of the message.
+/// The value that an output of a message that carries this sends, reduced modulo n where the
+/// message carries `int n`. Where the rule is proper and the variables are of their types, it is of
+/// the type of the message.
 pub fn send_value(rule: &Rule, vars: &Vars, carries: Carry) -> Value
     requires { IsProperCarry carries }
     ensures value { result ≡ values.sends vars.now rule.now.kind carries }
     ensures carried { (messages : List MessageInfo) (infos : List VarInfo)
-        → IsTyped messages infos vars.now rule.now → Offers messages rule.now carries → IsCarried carries result }
+        → IsTyped messages infos vars.now rule.now → Offers messages rule.now carries → IsCarried
+        carries result }
 {
     match rule.kind {
         RuleKind::Output(_, _, sent) => reduced(carries, offered(sent, vars)),

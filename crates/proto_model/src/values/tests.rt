@@ -1,5 +1,5 @@
 ghost use Rattle.std.specs.Prelude.{◌≡◌, IfOk};
-ghost use Rattle.proto_model.specs.Proper.{IsBound, IsProperVar};
+ghost use Rattle.proto_model.specs.Proper.{IsBound, IsProperKind};
 
 use super::*;
 use crate::name::Name;
@@ -26,7 +26,7 @@ fn variable(alloc: Global, kind: VarKind, first: Value) -> Result<VarInfo, NoMem
 // An int below the bound, which is 0 at first.
 fn int_below(alloc: Global, bound: u32) -> Result<VarInfo, NoMemory>
     requires { IsBound bound }
-    ensures { IfOk result IsProperVar }
+    ensures { IfOk result (λ v. IsProperKind v.kind) }
 {
     variable(alloc, VarKind::Int(bound), Value::Int(0))
 }

@@ -5,7 +5,7 @@ ghost use Rattle.std.specs.Prelude.{◌≡◌, ◌<◌, [], ◌∷◌, ◌++◌,
 use crate::numbered::Value;
 use std::marker::Model;
 
-/// The most variables that a process may have.
+// The most variables that a process may have.
 const ROOM: usize = 16;
 
 /// The values of the variables of a process, at most 16. Contracts see them as the list of them, in
@@ -29,7 +29,10 @@ impl Model for Vars {
 
     ghost invariant = { λ vars. IsFilled vars.len vars.values };
 
-    ghost inverse = { λ xs. record { values = xs ++ replicate (16 - length xs) AUnit; len = length xs } };
+    ghost inverse = { λ xs. record {
+      values = xs ++ replicate (16 - length xs) AUnit;
+      len = length xs;
+    } };
 
     ghost inverse_ok = { λ vars filled. vars_back vars filled };
 }

@@ -6,7 +6,7 @@ ghost use Rattle.proto_model.specs.Faults as spec;
 
 use proto_model::{Assign, Atom, Expr, Guard, GuardKind, Term};
 
-/// The greatest int.
+// The greatest int.
 const GREATEST: u32 = 65535;
 
 fn is_large_term(term: &Term) -> bool

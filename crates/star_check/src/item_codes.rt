@@ -10,23 +10,23 @@ use crate::fault::{
     ACTIVE_CONDITION, ACTIVE_MIXED, BAD_NUMBER, DUPLICATE, NAME_TOO_LONG, NOT_STAR, TOO_MANY,
     UNKNOWN, WRONG_DIRECTION, WRONG_TYPE,
 };
-use crate::numbers::is_large_guard;
+use crate::large_numbers::is_large_guard;
 use crate::scope::Scope;
 use proto_model::{
     Carry, Guard, GuardKind, Initial, Message, Name, Partner, Side, State, Var, VarKind,
 };
 
-/// How long a declared name may be, in bytes.
+// How long a declared name may be, in bytes.
 const LONGEST_NAME: usize = 32;
-/// How many messages a protocol may have, and how many states a process.
+// How many messages a protocol may have, and how many states a process.
 const MOST_MESSAGES: usize = 64;
 
 const MOST_STATES: usize = 64;
-/// How many variables a process may have, and how many guards a state.
+// How many variables a process may have, and how many guards a state.
 const MOST_VARS: usize = 16;
 
 const MOST_GUARDS: usize = 16;
-/// How many conditions a guard may have, and how many assignments.
+// How many conditions a guard may have, and how many assignments.
 const MOST_PARTS: usize = 8;
 
 /// The code of the declared name.
@@ -46,7 +46,8 @@ fn declaration_code<T: Declaration>(
     place: usize,
     name: &Name,
 ) -> Option<u8>
-    ensures code { result ≡ spec.first (spec.declaration_codes most (map T.name_of declared.now) place name.now) }
+    ensures code { result ≡ spec.first (spec.declaration_codes most (map T.name_of declared.now)
+        place name.now) }
     ensures few { IfNone result (place < most) }
 {
     if place >= most {
