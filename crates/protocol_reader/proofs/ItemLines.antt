@@ -1,11 +1,18 @@
 -- Each item of a protocol that a file spells has a line.
-use Rattle.std.proofs.Common.{◌≡◌, ℕ, ◌+◌, Bool, true, false, cond, List, [], ◌∷◌, ◌++◌, length, codes, Option, Some, None, refl, sym, ap, ◌∙◌, arith, length-append}
+use Rattle.std.proofs.Common.{◌≡◌, ℕ, ◌+◌, Bool, true, false, cond, List, [], ◌∷◌, ◌++◌, length}
+use Rattle.std.proofs.Common.{codes, Option, Some, None, refl, sym, ap, ◌∙◌, arith, length-append}
 use Rattle.std.specs.List.{flat_map}
 use Rattle.proto_model.specs.Tokens.{Text, Token, item, part, spellings}
 use Rattle.proto_model.specs.Lexemes.{Lexeme, lexemes}
-use Rattle.proto_model.specs.Grammar.{semicolon, closing, carry_tokens, conds_tokens, assigns_tokens, partner_tokens, bound_tokens, value_tokens, action_tokens, expr_tokens, atom_tokens, assign_tokens, kind_tokens, direction_token, initial_token, rel_token, message_tokens, var_tokens, guard_tokens, state_tokens, process_tokens, tokens_of}
+use Rattle.proto_model.specs.Grammar.{semicolon, closing, carry_tokens, conds_tokens}
+use Rattle.proto_model.specs.Grammar.{assigns_tokens, partner_tokens, bound_tokens, value_tokens}
+use Rattle.proto_model.specs.Grammar.{action_tokens, expr_tokens, atom_tokens, assign_tokens}
+use Rattle.proto_model.specs.Grammar.{kind_tokens, direction_token, initial_token, rel_token}
+use Rattle.proto_model.specs.Grammar.{message_tokens, var_tokens, guard_tokens, state_tokens}
+use Rattle.proto_model.specs.Grammar.{process_tokens, tokens_of}
 use Rattle.proto_model.specs.Spelled.{Spells, texts, marked_lines, item_lines}
-use Rattle.proto_model.specs.Faults.{Scope, codes_from, states_from, message_codes, var_codes, start_codes, guard_codes, scope_of, process_codes, item_codes}
+use Rattle.proto_model.specs.Faults.{Scope, codes_from, states_from, message_codes, var_codes}
+use Rattle.proto_model.specs.Faults.{start_codes, guard_codes, scope_of, process_codes, item_codes}
 use Rattle.proto_model.specs.declared.numbered.Side.TheVariants as side
 use Rattle.proto_model.specs.declared.protocol.Carry.{Carry}
 use Rattle.proto_model.specs.declared.protocol.Carry.TheVariants as carry
@@ -51,7 +58,8 @@ marks-append (t ∷ ts) ys =
     ap (λ (n : ℕ). cond t.begins (1 + n) n) more ∙ marks-cons t.begins (marks ts) (marks ys)
 
 -- things with one such token each
-marks-each : {A : Type 0} (tokens : A → List Token) → ((x : A) → marks (tokens x) ≡ 1) → (xs : List A) → marks (flat_map tokens xs) ≡ length xs
+marks-each : {A : Type 0} (tokens : A → List Token) → ((x : A) → marks (tokens x) ≡ 1)
+    → (xs : List A) → marks (flat_map tokens xs) ≡ length xs
 marks-each tokens one [] = refl
 marks-each tokens one (x ∷ xs) =
     let whole = marks-append (tokens x) (flat_map tokens xs) in
@@ -60,7 +68,8 @@ marks-each tokens one (x ∷ xs) =
     omega arith
 
 -- things without
-marks-none : {A : Type 0} (tokens : A → List Token) → ((x : A) → marks (tokens x) ≡ 0) → (xs : List A) → marks (flat_map tokens xs) ≡ 0
+marks-none : {A : Type 0} (tokens : A → List Token) → ((x : A) → marks (tokens x) ≡ 0)
+    → (xs : List A) → marks (flat_map tokens xs) ≡ 0
 marks-none tokens none [] = refl
 marks-none tokens none (x ∷ xs) =
     let whole = marks-append (tokens x) (flat_map tokens xs) in
@@ -81,7 +90,8 @@ marks-carry carry.Node = refl
 marks-carry carry.Set = refl
 
 marks-message : (m : Message) → marks (message_tokens m) ≡ 1
-marks-message m = rw (marks-direction m.up, marks-append (carry_tokens m.carries) _, marks-carry m.carries) refl
+marks-message m =
+    rw (marks-direction m.up, marks-append (carry_tokens m.carries) _, marks-carry m.carries) refl
 
 marks-kind : (k : VarKind) → marks (kind_tokens k) ≡ 0
 marks-kind (kind.Int n) = refl
@@ -94,7 +104,8 @@ marks-initial first.Nowhere = refl
 marks-initial first.Empty = refl
 
 marks-var : (v : Var) → marks (var_tokens v) ≡ 1
-marks-var v = rw (marks-append (kind_tokens v.kind) _, marks-kind v.kind, marks-initial v.first) refl
+marks-var v =
+    rw (marks-append (kind_tokens v.kind) _, marks-kind v.kind, marks-initial v.first) refl
 
 marks-term : (t : Term) → marks (expr_tokens (expr.One t)) ≡ 0
 marks-term (term.Number n) = refl
@@ -106,14 +117,16 @@ marks-two : (t u : Term) → marks (expr_tokens (expr.Plus t u)) ≡ 0
 marks-two t u =
     let one = marks-term t in
     let two = marks-term u in
-    let parts = marks-append (expr_tokens (expr.One t)) (part (codes "+") ∷ expr_tokens (expr.One u)) in
+    let parts =
+    marks-append (expr_tokens (expr.One t)) (part (codes "+") ∷ expr_tokens (expr.One u)) in
     omega arith
 
 marks-less : (t u : Term) → marks (expr_tokens (expr.Minus t u)) ≡ 0
 marks-less t u =
     let one = marks-term t in
     let two = marks-term u in
-    let parts = marks-append (expr_tokens (expr.One t)) (part (codes "-") ∷ expr_tokens (expr.One u)) in
+    let parts =
+    marks-append (expr_tokens (expr.One t)) (part (codes "-") ∷ expr_tokens (expr.One u)) in
     omega arith
 
 marks-expr : (e : Expr) → marks (expr_tokens e) ≡ 0
@@ -130,18 +143,30 @@ marks-rel rel.Inside = refl
 marks-rel rel.Outside = refl
 
 marks-atom : (a : Atom) → marks (atom_tokens a) ≡ 0
-marks-atom a = rw (marks-append (expr_tokens a.left) _, marks-expr a.left, marks-rel a.rel, marks-expr a.right) refl
+marks-atom a =
+    rw (marks-append (expr_tokens a.left) _, marks-expr a.left, marks-rel a.rel, marks-expr a.right)
+    refl
 
 marks-conds : (atoms : List Atom) → marks (conds_tokens atoms) ≡ 0
 marks-conds [] = refl
-marks-conds (a ∷ more) = rw (marks-append (atom_tokens a) _, marks-atom a, marks-none (λ b. part (codes "and") ∷ atom_tokens b) marks-atom more) refl
+marks-conds (a ∷ more) =
+    rw (
+      marks-append (atom_tokens a) _,
+      marks-atom a,
+      marks-none (λ b. part (codes "and") ∷ atom_tokens b) marks-atom more,
+    ) refl
 
 marks-assign : (a : Assign) → marks (assign_tokens a) ≡ 0
 marks-assign a = marks-expr a.value
 
 marks-assigns : (assigns : List Assign) → marks (assigns_tokens assigns) ≡ 0
 marks-assigns [] = refl
-marks-assigns (a ∷ more) = rw (marks-append (assign_tokens a) _, marks-assign a, marks-none (λ b. part (codes ",") ∷ assign_tokens b) marks-assign more) refl
+marks-assigns (a ∷ more) =
+    rw (
+      marks-append (assign_tokens a) _,
+      marks-assign a,
+      marks-none (λ b. part (codes ",") ∷ assign_tokens b) marks-assign more,
+    ) refl
 
 marks-partner : (p : Partner) → marks (partner_tokens p) ≡ 0
 marks-partner partners.Home = refl
@@ -159,20 +184,33 @@ marks-value (Some e) = rw (marks-append (expr_tokens e) _, marks-expr e) refl
 
 marks-action : (a : GuardKind) → marks (action_tokens a) ≡ 1
 marks-action action.Tau = refl
-marks-action (action.Input p m b) = rw (marks-append (partner_tokens p) _, marks-partner p, marks-bound b) refl
-marks-action (action.Output p m v) = rw (marks-append (partner_tokens p) _, marks-partner p, marks-value v) refl
+marks-action (action.Input p m b) =
+    rw (marks-append (partner_tokens p) _, marks-partner p, marks-bound b) refl
+marks-action (action.Output p m v) =
+    rw (marks-append (partner_tokens p) _, marks-partner p, marks-value v) refl
 
 marks-guard : (g : Guard) → marks (guard_tokens g) ≡ 1
 marks-guard g =
-    rw (marks-append (action_tokens g.kind) _, marks-action g.kind, marks-append (conds_tokens g.conds) _, marks-conds g.conds, marks-append (assigns_tokens g.assigns) _, marks-assigns g.assigns) refl
+    rw (
+      marks-append (action_tokens g.kind) _,
+      marks-action g.kind,
+      marks-append (conds_tokens g.conds) _,
+      marks-conds g.conds,
+      marks-append (assigns_tokens g.assigns) _,
+      marks-assigns g.assigns,
+    ) refl
 
 -- ---- and how many items there are
 
-length-codes_from : {A : Type 0} (codes_at : ℕ → A → List ℕ) (n : ℕ) (xs : List A) → length (codes_from codes_at n xs) ≡ length xs
+length-codes_from : {A : Type 0} (codes_at : ℕ → A → List ℕ) (n : ℕ) (xs : List A)
+    → length (codes_from codes_at n xs) ≡ length xs
 length-codes_from codes_at n [] = refl
-length-codes_from codes_at n (x ∷ xs) = let more = length-codes_from codes_at (n + 1) xs in omega arith
+length-codes_from codes_at n (x ∷ xs) =
+    let more = length-codes_from codes_at (n + 1) xs in
+    omega arith
 
-states-marked : (s : Scope) (n : ℕ) (states : List State) → marks (flat_map state_tokens states) ≡ length (states_from s n states)
+states-marked : (s : Scope) (n : ℕ) (states : List State)
+    → marks (flat_map state_tokens states) ≡ length (states_from s n states)
 states-marked s n [] = refl
 states-marked s n (state ∷ states) =
     let guards = flat_map guard_tokens state.guards in
@@ -180,20 +218,29 @@ states-marked s n (state ∷ states) =
     let two = marks-append guards (closing ∷ []) in
     let three = marks-each guard_tokens marks-guard state.guards in
     let four = states-marked s (n + 1) states in
-    let five = length-append (codes_from (guard_codes s) 0 state.guards) (states_from s (n + 1) states) in
+    let five =
+    length-append (codes_from (guard_codes s) 0 state.guards) (states_from s (n + 1) states) in
     let six = length-codes_from (guard_codes s) 0 state.guards in
     omega arith
 
-process-marked : (s : Scope) (p : Process) → s.vars ≡ p.vars → s.states ≡ p.states → marks (process_tokens p) ≡ length (process_codes s p.start)
+process-marked : (s : Scope) (p : Process) → s.vars ≡ p.vars → s.states ≡ p.states
+    → marks (process_tokens p) ≡ length (process_codes s p.start)
 process-marked s p same_vars same_states =
     let vars = flat_map var_tokens p.vars in
     let states = flat_map state_tokens p.states in
-    let one = marks-append vars (item (codes "start") ∷ part p.start ∷ semicolon ∷ (states ++ closing ∷ [])) in
+    let one =
+    marks-append vars
+    (item (codes "start") ∷ part p.start ∷ semicolon ∷ (states ++ closing ∷ [])) in
     let two = marks-each var_tokens marks-var p.vars in
     let three = marks-append states (closing ∷ []) in
-    let four : marks states ≡ length (states_from s 0 s.states) = states-marked s 0 p.states ∙ ap (λ (xs : List State). length (states_from s 0 xs)) (sym same_states) in
-    let five = length-append (codes_from (var_codes s.vars) 0 s.vars) (start_codes s.states p.start ∷ states_from s 0 s.states) in
-    let six : length (codes_from (var_codes s.vars) 0 s.vars) ≡ length p.vars = length-codes_from (var_codes s.vars) 0 s.vars ∙ ap length same_vars in
+    let four : marks states ≡ length (states_from s 0 s.states) =
+    states-marked s 0 p.states
+    ∙ ap (λ (xs : List State). length (states_from s 0 xs)) (sym same_states) in
+    let five =
+    length-append (codes_from (var_codes s.vars) 0 s.vars)
+    (start_codes s.states p.start ∷ states_from s 0 s.states) in
+    let six : length (codes_from (var_codes s.vars) 0 s.vars) ≡ length p.vars =
+    length-codes_from (var_codes s.vars) 0 s.vars ∙ ap length same_vars in
     omega arith
 
 -- the first tokens of items are as many as the items
@@ -202,28 +249,42 @@ items-marked p =
     let messages = flat_map message_tokens p.messages in
     let home = scope_of side.Home p.messages p.home in
     let remote = scope_of side.Remote p.messages p.remote in
-    let rest = item (codes "home") ∷ (process_tokens p.home ++ item (codes "remote") ∷ process_tokens p.remote) in
+    let rest =
+    item (codes "home")
+    ∷ (process_tokens p.home ++ item (codes "remote") ∷ process_tokens p.remote) in
     let one = marks-append messages rest in
     let two = marks-each message_tokens marks-message p.messages in
-    let three = marks-append (process_tokens p.home) (item (codes "remote") ∷ process_tokens p.remote) in
+    let three =
+    marks-append (process_tokens p.home) (item (codes "remote") ∷ process_tokens p.remote) in
     let four = process-marked home p.home refl refl in
     let five = process-marked remote p.remote refl refl in
-    let six = length-append (codes_from (message_codes p.messages) 0 p.messages) ([] ∷ (process_codes home p.home.start ++ [] ∷ process_codes remote p.remote.start)) in
+    let six =
+    length-append (codes_from (message_codes p.messages) 0 p.messages)
+    ([] ∷ (process_codes home p.home.start ++ [] ∷ process_codes remote p.remote.start)) in
     let seven = length-codes_from (message_codes p.messages) 0 p.messages in
-    let eight = length-append (process_codes home p.home.start) ([] ∷ process_codes remote p.remote.start) in
+    let eight =
+    length-append (process_codes home p.home.start)
+    ([] ∷ process_codes remote p.remote.start) in
     omega arith
 
 -- ---- lines
 
-by_mark : (b : Bool) (line : ℕ) (lines : List ℕ) (n : ℕ) → length lines ≡ n → length (cond b (line ∷ lines) lines) ≡ cond b (1 + n) n
+by_mark : (b : Bool) (line : ℕ) (lines : List ℕ) (n : ℕ) → length lines ≡ n
+    → length (cond b (line ∷ lines) lines) ≡ cond b (1 + n) n
 by_mark true line lines n e = omega arith
 by_mark false line lines n e = e
 
-marked-lines : (ts : List Token) (ls : List Lexeme) (rest : List Text) → texts ls ≡ spellings ts ++ rest → length (marked_lines ts ls) ≡ marks ts
+marked-lines : (ts : List Token) (ls : List Lexeme) (rest : List Text)
+    → texts ls ≡ spellings ts ++ rest → length (marked_lines ts ls) ≡ marks ts
 marked-lines [] ls rest e = refl
 marked-lines (t ∷ ts) [] rest e = absurd cc
-marked-lines (t ∷ ts) (l ∷ ls) rest e = by_mark t.begins l.line (marked_lines ts ls) (marks ts) (marked-lines ts ls rest (let h : texts ls ≡ spellings ts ++ rest = cc in h))
+marked-lines (t ∷ ts) (l ∷ ls) rest e =
+    by_mark t.begins l.line (marked_lines ts ls) (marks ts)
+    (marked-lines ts ls rest (let h : texts ls ≡ spellings ts ++ rest = cc in h))
 
-pub item_lines-length : (bytes : Text) (p : Protocol) → Spells bytes p → length (item_lines bytes p) ≡ length (item_codes p)
+pub item_lines-length : (bytes : Text) (p : Protocol) → Spells bytes p
+    → length (item_lines bytes p) ≡ length (item_codes p)
 item_lines-length bytes p s =
-    marked-lines (tokens_of p) (lexemes bytes) ([] ∷ []) (laid_cut bytes (spellings (tokens_of p)) (protocol_lexemes p s.sayable) s.laid) ∙ items-marked p
+    marked-lines (tokens_of p) (lexemes bytes) ([] ∷ [])
+    (laid_cut bytes (spellings (tokens_of p)) (protocol_lexemes p s.sayable) s.laid)
+    ∙ items-marked p

@@ -1,5 +1,6 @@
 -- Which texts a file can spell as one lexeme wherever they are laid.
-use Rattle.std.proofs.Common.{◌≡◌, ◌≢◌, ℕ, Bool, true, false, not, ◌&&◌, ◌||◌, eqb, List, [], ◌∷◌, refl, inl, inr}
+use Rattle.std.proofs.Common.{◌≡◌, ◌≢◌, ℕ, Bool, true, false, not, ◌&&◌, ◌||◌, eqb, List, [], ◌∷◌}
+use Rattle.std.proofs.Common.{refl, inl, inr}
 use Rattle.std.specs.Prelude.{◌⊎◌}
 use Rattle.std.specs.List.{list_all}
 use Rattle.std.proofs.lemmas.Bool.{cases_Bool, and_parts, not-true, eqb-false}
@@ -10,7 +11,9 @@ use Rattle.protocol_reader.proofs.Tokens.{all_word}
 -- begins a comment where another is laid behind it.
 abbrev pub IsLexeme : Text → Type 0
 IsLexeme [] = ⊥
-IsLexeme (b ∷ bs) = ((is_word b ≡ true) × AllWord bs) ⊎ ((is_word b ≡ false) × (is_space b ≡ false) × (b ≢ 47) × (bs ≡ []))
+IsLexeme (b ∷ bs) =
+    ((is_word b ≡ true) × AllWord bs) ⊎
+    ((is_word b ≡ false) × (is_space b ≡ false) × (b ≢ 47) × (bs ≡ []))
 
 abbrev pub AllLexemes : List Text → Type 0
 AllLexemes [] = Unit {0}
@@ -30,7 +33,8 @@ is_lexeme [] = false
 is_lexeme (b ∷ []) = is_word b || (not (is_space b) && not (eqb b 47))
 is_lexeme (b ∷ c ∷ bs) = list_all is_word (b ∷ c ∷ bs)
 
-symbol_lexeme : (b : ℕ) → is_word b ≡ false → (not (is_space b) && not (eqb b 47)) ≡ true → IsLexeme (b ∷ [])
+symbol_lexeme : (b : ℕ) → is_word b ≡ false → (not (is_space b) && not (eqb b 47)) ≡ true
+    → IsLexeme (b ∷ [])
 symbol_lexeme b other e =
     let parts = and_parts (not (is_space b)) (not (eqb b 47)) e in
     inr (other, not-true (is_space b) parts.0, eqb-false b 47 (not-true (eqb b 47) parts.1), refl)

@@ -1,11 +1,11 @@
 pub mod Cutting
 pub mod CutIsLaid
+pub mod LexemeLines
 pub mod FrontCut
 pub mod CursorView
 pub mod Tokens
 pub mod LexemeTexts
 pub mod LaidIsCut
-pub mod Digits
 pub mod Numbers
 pub mod TokensAreLexemes
 pub mod Taking

@@ -1,9 +1,19 @@
 -- Each token of a protocol that a file can say is a lexeme.
-use Rattle.std.proofs.Common.{Bool, true, false, List, [], ◌∷◌, ◌++◌, Option, Some, None, refl, codes}
+use Rattle.std.proofs.Common.{Bool, true, false, List, [], ◌∷◌, ◌++◌, Option, Some, None, refl}
+use Rattle.std.proofs.Common.{codes}
 use Rattle.std.specs.List.{flat_map, AllByRecursion}
 use Rattle.proto_model.specs.Tokens.{Text, is_word, is_space, Token, item, part, spellings}
-use Rattle.proto_model.specs.Grammar.{semicolon, closing, direction_token, carry_tokens, message_tokens, kind_tokens, initial_token, var_tokens, term_token, expr_tokens, rel_token, atom_tokens, conds_tokens, assign_tokens, assigns_tokens, partner_tokens, bound_tokens, value_tokens, action_tokens, guard_tokens, state_tokens, process_tokens, tokens_of}
-use Rattle.proto_model.specs.Sayable.{IsSayableCarry, IsSayableMessage, IsSayableKind, IsSayableInitial, IsSayableVar, IsSayableTerm, IsSayableExpr, IsSayableAtom, IsSayableAssign, IsSayablePartner, IsSayableBound, IsSayableValue, IsSayableAction, IsSayableGuard, IsSayableState, IsSayableProcess, IsSayable}
+use Rattle.proto_model.specs.Grammar.{semicolon, closing, direction_token, carry_tokens}
+use Rattle.proto_model.specs.Grammar.{message_tokens, kind_tokens, initial_token, var_tokens}
+use Rattle.proto_model.specs.Grammar.{term_token, expr_tokens, rel_token, atom_tokens, conds_tokens}
+use Rattle.proto_model.specs.Grammar.{assign_tokens, assigns_tokens, partner_tokens, bound_tokens}
+use Rattle.proto_model.specs.Grammar.{value_tokens, action_tokens, guard_tokens, state_tokens}
+use Rattle.proto_model.specs.Grammar.{process_tokens, tokens_of}
+use Rattle.proto_model.specs.Sayable.{IsSayableCarry, IsSayableMessage, IsSayableKind}
+use Rattle.proto_model.specs.Sayable.{IsSayableInitial, IsSayableVar, IsSayableTerm, IsSayableExpr}
+use Rattle.proto_model.specs.Sayable.{IsSayableAtom, IsSayableAssign, IsSayablePartner}
+use Rattle.proto_model.specs.Sayable.{IsSayableBound, IsSayableValue, IsSayableAction}
+use Rattle.proto_model.specs.Sayable.{IsSayableGuard, IsSayableState, IsSayableProcess, IsSayable}
 use Rattle.proto_model.specs.declared.protocol.Carry.{Carry}
 use Rattle.proto_model.specs.declared.protocol.Carry.TheVariants as carry
 use Rattle.proto_model.specs.declared.protocol.Message.{Message}
@@ -38,11 +48,13 @@ AreLexemes-append : (ts us : List Token) → AreLexemes ts → AreLexemes us →
 AreLexemes-append [] us are more = more
 AreLexemes-append (t ∷ ts) us are more = (are.0, AreLexemes-append ts us are.1 more)
 
-AreLexemes-flat_map : {A : Type 0} (tokens : A → List Token) (IsOk : A → Type 0) → ((a : A) → IsOk a → AreLexemes (tokens a))
+AreLexemes-flat_map : {A : Type 0} (tokens : A → List Token) (IsOk : A → Type 0)
+    → ((a : A) → IsOk a → AreLexemes (tokens a))
     → (xs : List A) → AllByRecursion IsOk xs → AreLexemes (flat_map tokens xs)
 AreLexemes-flat_map tokens IsOk one [] ok = tt
 AreLexemes-flat_map tokens IsOk one (a ∷ more) ok =
-    AreLexemes-append (tokens a) (flat_map tokens more) (one a ok.0) (AreLexemes-flat_map tokens IsOk one more ok.1)
+    AreLexemes-append (tokens a) (flat_map tokens more) (one a ok.0)
+    (AreLexemes-flat_map tokens IsOk one more ok.1)
 
 -- ---- the words and signs of the grammar
 
@@ -76,8 +88,12 @@ carry_lexemes carry.Set ok = (lexeme_is (codes "set") refl, tt)
 message_lexemes : (m : Message) → IsSayableMessage m → AreLexemes (message_tokens m)
 unfolding is_word is_space
 message_lexemes m ok =
-    let carried = AreLexemes-append (carry_tokens m.carries) (semicolon ∷ []) (carry_lexemes m.carries ok.carries) semicolon_lexeme in
-    (lexeme_is (codes "message") refl, (name_lexeme m.name ok.name, (direction_lexeme m.up, carried)))
+    let carried =
+    AreLexemes-append (carry_tokens m.carries) (semicolon ∷ [])
+    (carry_lexemes m.carries ok.carries) semicolon_lexeme in (
+      lexeme_is (codes "message") refl,
+      (name_lexeme m.name ok.name, (direction_lexeme m.up, carried)),
+    )
 
 kind_lexemes : (k : VarKind) → IsSayableKind k → AreLexemes (kind_tokens k)
 unfolding is_word is_space
@@ -95,8 +111,13 @@ var_lexemes : (v : Var) → IsSayableVar v → AreLexemes (var_tokens v)
 unfolding is_word is_space
 var_lexemes v ok =
     let given : AreLexemes (part (codes "=") ∷ initial_token v.first ∷ semicolon ∷ []) =
-    (lexeme_is (codes "=") refl, (initial_lexeme v.first ok.first, semicolon_lexeme)) in
-    (lexeme_is (codes "var") refl, (name_lexeme v.name ok.name, AreLexemes-append (kind_tokens v.kind) _ (kind_lexemes v.kind ok.kind) given))
+    (lexeme_is (codes "=") refl, (initial_lexeme v.first ok.first, semicolon_lexeme)) in (
+      lexeme_is (codes "var") refl,
+      (
+        name_lexeme v.name ok.name,
+        AreLexemes-append (kind_tokens v.kind) _ (kind_lexemes v.kind ok.kind) given,
+      ),
+    )
 
 -- ---- expressions, conditions and assignments
 
@@ -110,30 +131,44 @@ term_lexeme term.Empty ok = lexeme_is (codes "empty") refl
 expr_lexemes : (e : Expr) → IsSayableExpr e → AreLexemes (expr_tokens e)
 unfolding is_word is_space
 expr_lexemes (expr.One t) ok = (term_lexeme t ok, tt)
-expr_lexemes (expr.Plus t u) ok = (term_lexeme t ok.0, (lexeme_is (codes "+") refl, (term_lexeme u ok.1, tt)))
-expr_lexemes (expr.Minus t u) ok = (term_lexeme t ok.0, (lexeme_is (codes "-") refl, (term_lexeme u ok.1, tt)))
+expr_lexemes (expr.Plus t u) ok =
+    (term_lexeme t ok.0, (lexeme_is (codes "+") refl, (term_lexeme u ok.1, tt)))
+expr_lexemes (expr.Minus t u) ok =
+    (term_lexeme t ok.0, (lexeme_is (codes "-") refl, (term_lexeme u ok.1, tt)))
 
 atom_lexemes : (a : Atom) → IsSayableAtom a → AreLexemes (atom_tokens a)
 atom_lexemes a ok =
-    AreLexemes-append (expr_tokens a.left) _ (expr_lexemes a.left ok.left) (rel_lexeme a.rel, expr_lexemes a.right ok.right)
+    AreLexemes-append (expr_tokens a.left) _ (expr_lexemes a.left ok.left)
+    (rel_lexeme a.rel, expr_lexemes a.right ok.right)
 
-conds_lexemes : (atoms : List Atom) → AllByRecursion IsSayableAtom atoms → AreLexemes (conds_tokens atoms)
+conds_lexemes : (atoms : List Atom) → AllByRecursion IsSayableAtom atoms
+    → AreLexemes (conds_tokens atoms)
 unfolding is_word is_space
 conds_lexemes [] ok = tt
 conds_lexemes (a ∷ more) ok =
-    let and_more = AreLexemes-flat_map (λ b. part (codes "and") ∷ atom_tokens b) IsSayableAtom (λ b is. (lexeme_is (codes "and") refl, atom_lexemes b is)) more ok.1 in
-    (lexeme_is (codes "when") refl, AreLexemes-append (atom_tokens a) _ (atom_lexemes a ok.0) and_more)
+    let and_more =
+    AreLexemes-flat_map (λ b. part (codes "and") ∷ atom_tokens b) IsSayableAtom
+    (λ b is. (lexeme_is (codes "and") refl, atom_lexemes b is)) more ok.1 in (
+      lexeme_is (codes "when") refl,
+      AreLexemes-append (atom_tokens a) _ (atom_lexemes a ok.0) and_more,
+    )
 
 assign_lexemes : (a : Assign) → IsSayableAssign a → AreLexemes (assign_tokens a)
 unfolding is_word is_space
-assign_lexemes a ok = (name_lexeme a.var ok.var, (lexeme_is (codes "=") refl, expr_lexemes a.value ok.value))
+assign_lexemes a ok =
+    (name_lexeme a.var ok.var, (lexeme_is (codes "=") refl, expr_lexemes a.value ok.value))
 
-assigns_lexemes : (assigns : List Assign) → AllByRecursion IsSayableAssign assigns → AreLexemes (assigns_tokens assigns)
+assigns_lexemes : (assigns : List Assign) → AllByRecursion IsSayableAssign assigns
+    → AreLexemes (assigns_tokens assigns)
 unfolding is_word is_space
 assigns_lexemes [] ok = tt
 assigns_lexemes (a ∷ more) ok =
-    let comma_more = AreLexemes-flat_map (λ b. part (codes ",") ∷ assign_tokens b) IsSayableAssign (λ b is. (lexeme_is (codes ",") refl, assign_lexemes b is)) more ok.1 in
-    (lexeme_is (codes "do") refl, AreLexemes-append (assign_tokens a) _ (assign_lexemes a ok.0) comma_more)
+    let comma_more =
+    AreLexemes-flat_map (λ b. part (codes ",") ∷ assign_tokens b) IsSayableAssign
+    (λ b is. (lexeme_is (codes ",") refl, assign_lexemes b is)) more ok.1 in (
+      lexeme_is (codes "do") refl,
+      AreLexemes-append (assign_tokens a) _ (assign_lexemes a ok.0) comma_more,
+    )
 
 -- ---- guards
 
@@ -141,38 +176,53 @@ partner_lexemes : (p : Partner) → IsSayablePartner p → AreLexemes (partner_t
 unfolding is_word is_space
 partner_lexemes partner.Home ok = (lexeme_is (codes "home") refl, tt)
 partner_lexemes (partner.Any x) ok = (lexeme_is (codes "any") refl, (name_lexeme x ok, tt))
-partner_lexemes (partner.Member x s) ok =
-    (lexeme_is (codes "any") refl, (name_lexeme x ok.0, (lexeme_is (codes "in") refl, (name_lexeme s ok.1, tt))))
+partner_lexemes (partner.Member x s) ok = (
+  lexeme_is (codes "any") refl,
+  (name_lexeme x ok.0, (lexeme_is (codes "in") refl, (name_lexeme s ok.1, tt))),
+)
 partner_lexemes (partner.Named x) ok = (name_lexeme x ok, tt)
 
 bound_lexemes : (b : Option Text) → IsSayableBound b → AreLexemes (bound_tokens b)
 unfolding is_word is_space
 bound_lexemes None ok = tt
-bound_lexemes (Some x) ok = (lexeme_is (codes "(") refl, (name_lexeme x ok, (lexeme_is (codes ")") refl, tt)))
+bound_lexemes (Some x) ok =
+    (lexeme_is (codes "(") refl, (name_lexeme x ok, (lexeme_is (codes ")") refl, tt)))
 
 value_lexemes : (v : Option Expr) → IsSayableValue v → AreLexemes (value_tokens v)
 unfolding is_word is_space
 value_lexemes None ok = tt
-value_lexemes (Some e) ok =
-    (lexeme_is (codes "(") refl, AreLexemes-append (expr_tokens e) _ (expr_lexemes e ok) (lexeme_is (codes ")") refl, tt))
+value_lexemes (Some e) ok = (
+  lexeme_is
+      (codes "(") refl,
+  AreLexemes-append (expr_tokens e) _ (expr_lexemes e ok) (lexeme_is (codes ")") refl, tt),
+)
 
 action_lexemes : (a : GuardKind) → IsSayableAction a → AreLexemes (action_tokens a)
 unfolding is_word is_space
 action_lexemes action.Tau ok = (lexeme_is (codes "tau") refl, tt)
 action_lexemes (action.Input p m b) ok =
-    let asked : AreLexemes (part (codes "?") ∷ part m ∷ bound_tokens b) = (lexeme_is (codes "?") refl, (name_lexeme m ok.1, bound_lexemes b ok.2)) in
-    (lexeme_is (codes "from") refl, AreLexemes-append (partner_tokens p) _ (partner_lexemes p ok.0) asked)
+    let asked : AreLexemes (part (codes "?") ∷ part m ∷ bound_tokens b) =
+    (lexeme_is (codes "?") refl, (name_lexeme m ok.1, bound_lexemes b ok.2)) in (
+      lexeme_is (codes "from") refl,
+      AreLexemes-append (partner_tokens p) _ (partner_lexemes p ok.0) asked,
+    )
 action_lexemes (action.Output p m v) ok =
-    let sent : AreLexemes (part (codes "!") ∷ part m ∷ value_tokens v) = (lexeme_is (codes "!") refl, (name_lexeme m ok.1, value_lexemes v ok.2)) in
-    (lexeme_is (codes "to") refl, AreLexemes-append (partner_tokens p) _ (partner_lexemes p ok.0) sent)
+    let sent : AreLexemes (part (codes "!") ∷ part m ∷ value_tokens v) =
+    (lexeme_is (codes "!") refl, (name_lexeme m ok.1, value_lexemes v ok.2)) in (
+      lexeme_is (codes "to") refl,
+      AreLexemes-append (partner_tokens p) _ (partner_lexemes p ok.0) sent,
+    )
 
 guard_lexemes : (g : Guard) → IsSayableGuard g → AreLexemes (guard_tokens g)
 unfolding is_word is_space
 guard_lexemes g ok =
     let goto : AreLexemes (part (codes "goto") ∷ part g.next ∷ semicolon ∷ []) =
     (lexeme_is (codes "goto") refl, (name_lexeme g.next ok.next, semicolon_lexeme)) in
-    let from_assigns = AreLexemes-append (assigns_tokens g.assigns) _ (assigns_lexemes g.assigns ok.assigns) goto in
-    let from_conds = AreLexemes-append (conds_tokens g.conds) _ (conds_lexemes g.conds ok.conds) from_assigns in
+    let from_assigns =
+    AreLexemes-append (assigns_tokens g.assigns) _
+    (assigns_lexemes g.assigns ok.assigns) goto in
+    let from_conds =
+    AreLexemes-append (conds_tokens g.conds) _ (conds_lexemes g.conds ok.conds) from_assigns in
     AreLexemes-append (action_tokens g.kind) _ (action_lexemes g.kind ok.kind) from_conds
 
 -- ---- states, processes, the protocol
@@ -181,16 +231,26 @@ state_lexemes : (s : State) → IsSayableState s → AreLexemes (state_tokens s)
 unfolding is_word is_space
 state_lexemes s ok =
     let guards = AreLexemes-flat_map guard_tokens IsSayableGuard guard_lexemes s.guards ok.guards in
-    let closed = AreLexemes-append (flat_map guard_tokens s.guards) (closing ∷ []) guards (lexeme_is (codes "}") refl, tt) in
-    (lexeme_is (codes "state") refl, (name_lexeme s.name ok.name, (lexeme_is (codes "{") refl, closed)))
+    let closed =
+    AreLexemes-append (flat_map guard_tokens s.guards) (closing ∷ []) guards
+    (lexeme_is (codes "}") refl, tt) in (
+      lexeme_is (codes "state") refl,
+      (name_lexeme s.name ok.name, (lexeme_is (codes "{") refl, closed)),
+    )
 
 process_lexemes : (p : Process) → IsSayableProcess p → AreLexemes (process_tokens p)
 unfolding is_word is_space
 process_lexemes p ok =
     let states = AreLexemes-flat_map state_tokens IsSayableState state_lexemes p.states ok.states in
-    let closed = AreLexemes-append (flat_map state_tokens p.states) (closing ∷ []) states (lexeme_is (codes "}") refl, tt) in
-    let start : AreLexemes (item (codes "start") ∷ part p.start ∷ semicolon ∷ (flat_map state_tokens p.states ++ closing ∷ [])) =
-    (lexeme_is (codes "start") refl, (name_lexeme p.start ok.start, (lexeme_is (codes ";") refl, closed))) in
+    let closed =
+    AreLexemes-append (flat_map state_tokens p.states) (closing ∷ []) states
+    (lexeme_is (codes "}") refl, tt) in
+    let start : AreLexemes
+    (item (codes "start") ∷ part p.start ∷ semicolon
+    ∷ (flat_map state_tokens p.states ++ closing ∷ [])) = (
+      lexeme_is (codes "start") refl,
+      (name_lexeme p.start ok.start, (lexeme_is (codes ";") refl, closed)),
+    ) in
     let vars = AreLexemes-flat_map var_tokens IsSayableVar var_lexemes p.vars ok.vars in
     (lexeme_is (codes "{") refl, AreLexemes-append (flat_map var_tokens p.vars) _ vars start)
 
@@ -199,8 +259,16 @@ unfolding is_word is_space
 protocol_lexemes p ok =
     let remote : AreLexemes (item (codes "remote") ∷ process_tokens p.remote) =
     (lexeme_is (codes "remote") refl, process_lexemes p.remote ok.remote) in
-    let home : AreLexemes (item (codes "home") ∷ (process_tokens p.home ++ item (codes "remote") ∷ process_tokens p.remote)) =
-    (lexeme_is (codes "home") refl, AreLexemes-append (process_tokens p.home) _ (process_lexemes p.home ok.home) remote) in
-    let messages = AreLexemes-flat_map message_tokens IsSayableMessage message_lexemes p.messages ok.messages in
-    let behind = AreLexemes-append (flat_map message_tokens p.messages) _ messages home in
-    (lexeme_is (codes "protocol") refl, (name_lexeme p.name ok.name, (lexeme_is (codes ";") refl, behind)))
+    let home : AreLexemes
+    (item (codes "home")
+    ∷ (process_tokens p.home ++ item (codes "remote") ∷ process_tokens p.remote)) = (
+      lexeme_is (codes "home") refl,
+      AreLexemes-append (process_tokens p.home) _ (process_lexemes p.home ok.home) remote,
+    ) in
+    let messages =
+    AreLexemes-flat_map message_tokens IsSayableMessage message_lexemes p.messages
+    ok.messages in
+    let behind = AreLexemes-append (flat_map message_tokens p.messages) _ messages home in (
+      lexeme_is (codes "protocol") refl,
+      (name_lexeme p.name ok.name, (lexeme_is (codes ";") refl, behind)),
+    )

@@ -9,7 +9,8 @@ use Rattle.protocol_reader.specs.declared.error.ReadError.TheVariants.{TooLong, 
 
 -- the bytes spell what is read, and the lines are those of its items
 abbrev pub IsSpelled : Text → Spelled → Type 0
-IsSpelled bytes s = (length bytes ≤ 65536) × Spells bytes s.protocol × (s.lines ≡ item_lines bytes s.protocol)
+IsSpelled bytes s =
+    (length bytes ≤ 65536) × Spells bytes s.protocol × (s.lines ≡ item_lines bytes s.protocol)
 
 -- each error comes only for its cause; want of memory needs none
 abbrev pub HasCause : Text → ReadError → Type 0

@@ -1,3 +1,4 @@
+pub mod LexemeLines
 pub mod Front
 pub mod Reading
 pub mod Cursor

@@ -1,9 +1,14 @@
--- Reading from left to right: what each rule of the grammar takes from the lexemes, and where it stops.
-use Rattle.std.specs.Prelude.{refl, ℕ, zero, suc, ◌+◌, ◌*◌, ◌-◌, Bool, true, false, not, ◌&&◌, ◌==◌, nat_le, if◌then◌else◌, ◌⊎◌, List, [], ◌∷◌, ◌++◌, length, Option, Some, None, Result, Ok, Err, codes}
+-- Reading from left to right: what each rule of the grammar takes from the lexemes, and where it
+-- stops. The comment of a rule is its line of the grammar: square brackets mark a part that may be
+-- missing, * a part that stands any number of times, | a choice, NAME a name and NUMBER a number.
+use Rattle.std.specs.Prelude.{refl, ℕ, zero, suc, ◌+◌, Bool, true, false, not, ◌&&◌, if◌then◌else◌}
+use Rattle.std.specs.Prelude.{◌⊎◌, List, [], ◌∷◌, ◌++◌, length, Option, Some, None, is_some}
+use Rattle.std.specs.Prelude.{Result, Ok, Err, codes}
 use Rattle.std.proofs.Common.{inl, inr}
 use Rattle.std.specs.Coded.{Coded, code_by, coded×, coded_ℕ, coded_list}
 use Rattle.std.specs.List.{list_all, list_any}
-use Rattle.std.specs.Str.{bytes_eq, all_ascii_digits}
+use Rattle.std.specs.Str.{bytes_eq}
+use Rattle.rv_base.specs.Numbers.{number_of}
 use Rattle.proto_model.specs.Tokens.{Text, is_word, begins_name, is_reserved, Token, item, part}
 use Rattle.proto_model.specs.Lexemes.{Lexeme}
 use Rattle.proto_model.specs.Grammar.{semicolon, opening, closing}
@@ -34,36 +39,50 @@ use Rattle.proto_model.specs.declared.guard.Guard.{Guard}
 
 -- ---- where reading stands
 
--- the lexemes from the next one on, and the lines of the items so far
+-- Where reading stands: the lexemes from the next one on, and the lines of the items that were
+-- begun so far, in file order.
 pub record At : Type 0 where
   pub lexemes : List Lexeme
   pub lines : List ℕ
 
+-- a lexeme as a pair, by which values of this type are coded
 abbrev pub coded_lexeme : Coded Lexeme
-coded_lexeme = code_by (Text × ℕ) (coded× (coded_list coded_ℕ) coded_ℕ) (λ l. (l.text, l.line)) (λ p. record { text = p.0; line = p.1 }) (λ _. refl)
+coded_lexeme =
+    code_by (Text × ℕ) (coded× (coded_list coded_ℕ) coded_ℕ)
+    (λ l. (l.text, l.line)) (λ p. record { text = p.0; line = p.1 }) (λ _. refl)
 
+-- a place as a pair, by which values of this type are coded
 abbrev pub coded_at : Coded At
-coded_at = code_by (List Lexeme × List ℕ) (coded× (coded_list coded_lexeme) (coded_list coded_ℕ)) (λ a. (a.lexemes, a.lines)) (λ p. record { lexemes = p.0; lines = p.1 }) (λ _. refl)
+coded_at =
+    code_by (List Lexeme × List ℕ) (coded× (coded_list coded_lexeme) (coded_list coded_ℕ))
+    (λ a. (a.lexemes, a.lines)) (λ p. record { lexemes = p.0; lines = p.1 }) (λ _. refl)
 
--- the next lexeme
+-- the first of some lexemes; where there is none, an empty one on line 0
 abbrev pub first_of_all : List Lexeme → Lexeme
 first_of_all [] = record { text = []; line = 0 }
 first_of_all (l ∷ _) = l
 
+-- the text of the next lexeme, which is empty at the end of the file
 unfoldable pub text_at : At → Text
 text_at at = (first_of_all at.lexemes).text
 
+-- the line of the next lexeme
 unfoldable pub line_at : At → ℕ
 line_at at = (first_of_all at.lexemes).line
 
+-- all lexemes but the first
 abbrev pub behind : List Lexeme → List Lexeme
 behind [] = []
 behind (_ ∷ ls) = ls
 
--- after the next lexeme, which is this token
+-- Behind the next lexeme, which is this token. Where the token begins an item, its line is kept.
 unfoldable pub after : Token → At → At
-after t at = record { lexemes = behind at.lexemes; lines = if t.begins then at.lines ++ line_at at ∷ [] else at.lines }
+after t at = record {
+  lexemes = behind at.lexemes;
+  lines = if t.begins then at.lines ++ line_at at ∷ [] else at.lines;
+}
 
+-- a lexeme stands first, and it is this text
 abbrev pub is_first : Text → List Lexeme → Bool
 is_first text [] = false
 is_first text (l ∷ _) = bytes_eq l.text text
@@ -72,11 +91,12 @@ is_first text (l ∷ _) = bytes_eq l.text text
 unfoldable pub sees : Text → At → Bool
 sees text at = is_first text at.lexemes
 
+-- one lexeme is left
 abbrev pub is_end : List Lexeme → Bool
 is_end (_ ∷ []) = true
 is_end _ = false
 
--- only the end of the file is left
+-- Only the end of the file is left, which is the last lexeme.
 unfoldable pub at_end : At → Bool
 at_end at = is_end at.lexemes
 
@@ -84,18 +104,22 @@ at_end at = is_end at.lexemes
 abbrev pub is_among : List Text → Text → Bool
 is_among words text = list_any (bytes_eq text) words
 
--- ---- readers: a value and where reading then stands, or the line at which it stopped
+-- ---- readers
 
+-- what reading gives: a value and where reading then stands, or the line at which it stopped
 abbrev pub Outcome : Type 0 → Type 0
 Outcome A = Result (A × At) ℕ
 
+-- what is read from a place on
 abbrev pub Reader : Type 0 → Type 0
 Reader A = At → Outcome A
 
+-- goes on with the value, from where reading then stands; a stop stays
 abbrev pub and_then : {A B : Type 0} → Outcome A → (A → Reader B) → Outcome B
 and_then (Ok p) f = f p.0 p.1
 and_then (Err n) f = Err n
 
+-- this value, of which no lexeme is taken
 abbrev pub pure : {A : Type 0} → A → Reader A
 pure a = λ at. Ok (a, at)
 
@@ -103,11 +127,11 @@ pure a = λ at. Ok (a, at)
 abbrev pub mapped : {A B : Type 0} → (A → B) → Reader A → Reader B
 mapped f p = λ at. and_then (p at) (λ a. pure (f a))
 
--- one and then the other
+-- the one and then the other, and the values of both
 abbrev pub both : {A B : Type 0} → Reader A → Reader B → Reader (A × B)
 both p q = λ at. and_then (p at) (λ a at2. and_then (q at2) (λ b. pure (a, b)))
 
--- the token
+-- The token, where the next lexeme is its text. Else reading stops there.
 unfoldable pub token : Token → Reader (Unit {0})
 token t = λ at. if sees t.text at then Ok (tt, after t at) else Err (line_at at)
 
@@ -118,112 +142,157 @@ choice t p q = λ at. if sees t.text at then mapped inl p (after t at) else mapp
 -- any number of things, as long as one of these words comes next, and at most so many
 unfoldable pub many : {A : Type 0} → List Text → Reader A → ℕ → Reader (List A)
 many words p zero = pure []
-many words p (suc n) = λ at. if is_among words (text_at at) then mapped (λ x. x.0 ∷ x.1) (both p (many words p n)) at else Ok ([], at)
+many words p (suc n) = λ at.
+    if is_among words (text_at at) then mapped (λ x. x.0 ∷ x.1) (both p (many words p n)) at
+    else Ok ([], at)
 
--- each thing takes a lexeme at least, so the bound is never met
+-- Any number of things, as long as one of these words comes next. Each thing takes a lexeme at
+-- least, so the bound is never met.
 unfoldable pub many_at : {A : Type 0} → List Text → Reader A → Reader (List A)
 many_at words p = λ at. many words p (length at.lexemes + 1) at
 
+-- The next lexeme, with what was made of its text. Where nothing was, reading stops there.
+abbrev pub taken : {A : Type 0} → Option A → Reader A
+taken (Some a) = λ at. Ok (a, after (part (text_at at)) at)
+taken None = λ at. Err (line_at at)
+
 -- ---- names and numbers
 
+-- a letter or _ and then letters, digits and _, but no reserved word
 unfoldable pub is_name : Text → Bool
 is_name text = begins_name text && list_all is_word text && not (is_reserved text)
 
+-- a name
 unfoldable pub name : Reader Text
-name = λ at. if is_name (text_at at) then Ok (text_at at, after (part (text_at at)) at) else Err (line_at at)
+name = λ at.
+    if is_name (text_at at) then Ok (text_at at, after (part (text_at at)) at)
+    else Err (line_at at)
 
-abbrev pub value_from : ℕ → Text → ℕ
-value_from n [] = n
-value_from n (c ∷ cs) = value_from (10 * n + (c - 48)) cs
+-- the number of at most five digits, without leading zeros, whose decimal text this is
+unfoldable pub number_in : Text → Option ℕ
+number_in text = number_of text 99999
 
--- no zero stands in front of other digits
-abbrev pub no_zero_first : Text → Bool
-no_zero_first [] = false
-no_zero_first (b ∷ []) = true
-no_zero_first (b ∷ c ∷ _) = not (b == 48)
+-- the text is that of a number
+abbrev pub is_number : Text → Bool
+is_number text = is_some (number_in text)
 
--- 0, or a digit from 1 to 9 and up to four further digits
-unfoldable pub is_number : Text → Bool
-is_number text = all_ascii_digits text && no_zero_first text && nat_le (length text) 5
-
+-- a number
 unfoldable pub number : Reader ℕ
-number = λ at. if is_number (text_at at) then Ok (value_from 0 (text_at at), after (part (text_at at)) at) else Err (line_at at)
+number = λ at. taken (number_in (text_at at)) at
 
 -- ---- rules
 
+-- no token
 abbrev pub nothing : Reader (Unit {0})
 nothing = pure tt
 
+-- this word or sign, which begins no item
 abbrev pub word : Text → Reader (Unit {0})
 word text = token (part text)
 
--- one or the other of two values, made from what a choice read
+-- up: true
 abbrev pub direction_of : Unit {0} ⊎ Unit {0} → Bool
 direction_of (inl _) = true
 direction_of (inr _) = false
 
+-- 'up' | 'down'
 unfoldable pub direction : Reader Bool
 direction = mapped direction_of (choice (part (codes "up")) nothing (word (codes "down")))
 
+-- what a message carries, by the word that was read, or by none
 abbrev pub carry_of : ℕ ⊎ (Unit {0} ⊎ (Unit {0} ⊎ Unit {0})) → Carry
 carry_of (inl n) = carry.Int n
 carry_of (inr (inl _)) = carry.Node
 carry_of (inr (inr (inl _))) = carry.Set
 carry_of (inr (inr (inr _))) = carry.Nothing
 
+-- [ 'int' NUMBER | 'node' | 'set' ]
 unfoldable pub carried : Reader Carry
-carried = mapped carry_of (choice (part (codes "int")) number (choice (part (codes "node")) nothing (choice (part (codes "set")) nothing nothing)))
+carried =
+    mapped carry_of
+    (choice (part (codes "int")) number
+    (choice (part (codes "node")) nothing
+    (choice (part (codes "set")) nothing nothing)))
 
+-- the message of the parts that were read
 abbrev pub message_of : Unit {0} × (Text × (Bool × (Carry × Unit {0}))) → Message
-message_of p = record { name = p.1.0; up = p.1.1.0; carries = p.1.1.1.0 }
+message_of (_, (name, (up, (carries, _)))) = record { name = name; up = up; carries = carries }
 
+-- 'message' NAME direction carried ';'
 unfoldable pub message : Reader Message
-message = mapped message_of (both (token (item (codes "message"))) (both name (both direction (both carried (token semicolon)))))
+message =
+    mapped message_of
+    (both (token (item (codes "message")))
+    (both name (both direction (both carried (token semicolon)))))
 
+-- the type of a variable, by the word that was read
 abbrev pub kind_of : ℕ ⊎ (Unit {0} ⊎ Unit {0}) → VarKind
 kind_of (inl n) = kind.Int n
 kind_of (inr (inl _)) = kind.Node
 kind_of (inr (inr _)) = kind.Set
 
+-- 'int' NUMBER | 'node' | 'set'
 unfoldable pub var_kind : Reader VarKind
-var_kind = mapped kind_of (choice (part (codes "int")) number (choice (part (codes "node")) nothing (word (codes "set"))))
+var_kind =
+    mapped kind_of
+    (choice (part (codes "int")) number (choice (part (codes "node")) nothing (word (codes "set"))))
 
+-- the first value of a variable, by the word or the number that was read
 abbrev pub initial_of : Unit {0} ⊎ (Unit {0} ⊎ ℕ) → Initial
 initial_of (inl _) = first.Nowhere
 initial_of (inr (inl _)) = first.Empty
 initial_of (inr (inr n)) = first.Number n
 
+-- 'none' | 'empty' | NUMBER
 unfoldable pub initial : Reader Initial
-initial = mapped initial_of (choice (part (codes "none")) nothing (choice (part (codes "empty")) nothing number))
+initial =
+    mapped initial_of
+    (choice (part (codes "none")) nothing (choice (part (codes "empty")) nothing number))
 
+-- the variable of the parts that were read
 abbrev pub var_of : Unit {0} × (Text × (VarKind × (Unit {0} × (Initial × Unit {0})))) → Var
-var_of p = record { name = p.1.0; kind = p.1.1.0; first = p.1.1.1.1.0 }
+var_of (_, (name, (kind, (_, (first, _))))) = record { name = name; kind = kind; first = first }
 
+-- 'var' NAME var_kind '=' initial ';'
 unfoldable pub variable : Reader Var
-variable = mapped var_of (both (token (item (codes "var"))) (both name (both var_kind (both (word (codes "=")) (both initial (token semicolon))))))
+variable =
+    mapped var_of
+    (both (token (item (codes "var"))) (both name (both var_kind
+    (both (word (codes "=")) (both initial (token semicolon))))))
 
 -- a number where one comes next, else a name
 unfoldable pub number_or_name : Reader (ℕ ⊎ Text)
-number_or_name = λ at. if is_number (text_at at) then mapped inl number at else mapped inr name at
+number_or_name = λ at.
+    if is_number (text_at at) then mapped inl number at else mapped inr name at
 
+-- the term, by the word, the number or the name that was read
 abbrev pub term_of : Unit {0} ⊎ (Unit {0} ⊎ (ℕ ⊎ Text)) → Term
 term_of (inl _) = term.Nowhere
 term_of (inr (inl _)) = term.Empty
 term_of (inr (inr (inl n))) = term.Number n
 term_of (inr (inr (inr name))) = term.Named name
 
+-- 'none' | 'empty' | NUMBER | NAME
 unfoldable pub operand : Reader Term
-operand = mapped term_of (choice (part (codes "none")) nothing (choice (part (codes "empty")) nothing number_or_name))
+operand =
+    mapped term_of
+    (choice (part (codes "none")) nothing (choice (part (codes "empty")) nothing number_or_name))
 
+-- the expression of a term and what was read behind it: + and a term, - and a term, or nothing
 abbrev pub expr_of : Term × (Term ⊎ (Term ⊎ Unit {0})) → Expr
 expr_of (t, inl u) = expr.Plus t u
 expr_of (t, inr (inl u)) = expr.Minus t u
 expr_of (t, inr (inr _)) = expr.One t
 
+-- operand [ ( '+' | '-' ) operand ]
 unfoldable pub expression : Reader Expr
-expression = mapped expr_of (both operand (choice (part (codes "+")) operand (choice (part (codes "-")) operand nothing)))
+expression =
+    mapped expr_of
+    (both operand (choice (part (codes "+")) operand (choice (part (codes "-")) operand nothing)))
 
-abbrev pub rel_of : Unit {0} ⊎ (Unit {0} ⊎ (Unit {0} ⊎ (Unit {0} ⊎ (Unit {0} ⊎ Unit {0})))) → Rel
+-- the relation, by the word that was read
+abbrev pub rel_of :
+    Unit {0} ⊎ (Unit {0} ⊎ (Unit {0} ⊎ (Unit {0} ⊎ (Unit {0} ⊎ Unit {0})))) → Rel
 rel_of (inl _) = rel.Eq
 rel_of (inr (inl _)) = rel.Ne
 rel_of (inr (inr (inl _))) = rel.Lt
@@ -231,113 +300,187 @@ rel_of (inr (inr (inr (inl _)))) = rel.Le
 rel_of (inr (inr (inr (inr (inl _))))) = rel.Inside
 rel_of (inr (inr (inr (inr (inr _))))) = rel.Outside
 
+-- 'eq' | 'ne' | 'lt' | 'le' | 'in' | 'notin'
 unfoldable pub relation : Reader Rel
 relation =
-    mapped rel_of (choice (part (codes "eq")) nothing (choice (part (codes "ne")) nothing (choice (part (codes "lt")) nothing
-    (choice (part (codes "le")) nothing (choice (part (codes "in")) nothing (word (codes "notin")))))))
+    mapped rel_of
+    (choice (part (codes "eq")) nothing
+    (choice (part (codes "ne")) nothing
+    (choice (part (codes "lt")) nothing
+    (choice (part (codes "le")) nothing
+    (choice (part (codes "in")) nothing (word (codes "notin")))))))
 
+-- the atom of the parts that were read
 abbrev pub atom_of : Expr × (Rel × Expr) → Atom
-atom_of p = record { left = p.0; rel = p.1.0; right = p.1.1 }
+atom_of (left, (rel, right)) = record { left = left; rel = rel; right = right }
 
+-- expression relation expression
 unfoldable pub atom : Reader Atom
 atom = mapped atom_of (both expression (both relation expression))
 
+-- what was read behind a word
+abbrev pub second_of : {A : Type 0} → Unit {0} × A → A
+second_of (_, a) = a
+
+-- 'and' atom
 unfoldable pub and_atom : Reader Atom
-and_atom = mapped (λ p. p.1) (both (word (codes "and")) atom)
+and_atom = mapped second_of (both (word (codes "and")) atom)
 
 -- the first and the others, or none
 abbrev pub list_of : {A : Type 0} → (A × List A) ⊎ Unit {0} → List A
-list_of (inl p) = p.0 ∷ p.1
+list_of (inl (a, more)) = a ∷ more
 list_of (inr _) = []
 
+-- [ 'when' atom ( 'and' atom )* ]
 unfoldable pub conditions : Reader (List Atom)
-conditions = mapped list_of (choice (part (codes "when")) (both atom (many_at (codes "and" ∷ []) and_atom)) nothing)
+conditions =
+    mapped list_of
+    (choice (part (codes "when")) (both atom (many_at (codes "and" ∷ []) and_atom)) nothing)
 
+-- the assignment of the parts that were read
 abbrev pub assign_of : Text × (Unit {0} × Expr) → Assign
-assign_of p = record { var = p.0; value = p.1.1 }
+assign_of (var, (_, value)) = record { var = var; value = value }
 
+-- NAME '=' expression
 unfoldable pub assignment : Reader Assign
 assignment = mapped assign_of (both name (both (word (codes "=")) expression))
 
+-- ',' assignment
 unfoldable pub comma_assignment : Reader Assign
-comma_assignment = mapped (λ p. p.1) (both (word (codes ",")) assignment)
+comma_assignment = mapped second_of (both (word (codes ",")) assignment)
 
+-- [ 'do' assignment ( ',' assignment )* ]
 unfoldable pub assignments : Reader (List Assign)
-assignments = mapped list_of (choice (part (codes "do")) (both assignment (many_at (codes "," ∷ []) comma_assignment)) nothing)
+assignments =
+    mapped list_of
+    (choice (part (codes "do")) (both assignment (many_at (codes "," ∷ []) comma_assignment))
+    nothing)
 
--- any x, and perhaps in s
+-- any x, where s is read too any x in s
 abbrev pub any_of : Text × (Text ⊎ Unit {0}) → Partner
 any_of (x, inl s) = partners.Member x s
 any_of (x, inr _) = partners.Any x
 
+-- the partner, by what was read: home, any with what follows, or the name of a variable
 abbrev pub partner_of : Unit {0} ⊎ ((Text × (Text ⊎ Unit {0})) ⊎ Text) → Partner
 partner_of (inl _) = partners.Home
 partner_of (inr (inl p)) = any_of p
 partner_of (inr (inr x)) = partners.Named x
 
+-- 'home' | 'any' NAME [ 'in' NAME ] | NAME
 unfoldable pub partner : Reader Partner
 partner =
-    mapped partner_of (choice (part (codes "home")) nothing (choice (part (codes "any")) (both name (choice (part (codes "in")) name nothing)) name))
+    mapped partner_of
+    (choice (part (codes "home")) nothing
+    (choice (part (codes "any")) (both name (choice (part (codes "in")) name nothing)) name))
 
+-- what was read in parentheses, or none
 abbrev pub option_of : {A : Type 0} → (A × Unit {0}) ⊎ Unit {0} → Option A
-option_of (inl p) = Some p.0
+option_of (inl (a, _)) = Some a
 option_of (inr _) = None
 
+-- [ '(' NAME ')' ]
 unfoldable pub bound : Reader (Option Text)
-bound = mapped option_of (choice (part (codes "(")) (both name (word (codes ")"))) nothing)
+bound =
+    mapped option_of (choice (part (codes "(")) (both name (word (codes ")"))) nothing)
 
+-- [ '(' expression ')' ]
 unfoldable pub value : Reader (Option Expr)
-value = mapped option_of (choice (part (codes "(")) (both expression (word (codes ")"))) nothing)
+value =
+    mapped option_of (choice (part (codes "(")) (both expression (word (codes ")"))) nothing)
 
--- a partner, ? or !, the message and what comes with it
+-- what is read of a rendezvous: a partner, ? or !, the message and what comes with it
 abbrev pub Meeting : Type 0 → Type 0
 Meeting A = Partner × (Unit {0} × (Text × A))
 
-abbrev pub action_of : Unit {0} ⊎ (Meeting (Option Text) ⊎ (Unit {0} × Meeting (Option Expr))) → GuardKind
-action_of (inl _) = action.Tau
-action_of (inr (inl p)) = action.Input p.0 p.1.1.0 p.1.1.1
-action_of (inr (inr q)) = action.Output q.1.0 q.1.1.1.0 q.1.1.1.1
-
+-- partner '?' NAME bound
 unfoldable pub input : Reader (Meeting (Option Text))
 input = both partner (both (word (codes "?")) (both name bound))
 
+-- partner '!' NAME value
 unfoldable pub output : Reader (Meeting (Option Expr))
 output = both partner (both (word (codes "!")) (both name value))
 
+-- the input of the parts that were read
+abbrev pub input_of : Meeting (Option Text) → GuardKind
+input_of (partner, (_, (message, bound))) = action.Input partner message bound
+
+-- the output of the parts that were read
+abbrev pub output_of : Meeting (Option Expr) → GuardKind
+output_of (partner, (_, (message, value))) = action.Output partner message value
+
+-- what a guard does, by what was read: tau, from with an input, or to with an output
+abbrev pub action_of :
+    Unit {0} ⊎ (Meeting (Option Text) ⊎ (Unit {0} × Meeting (Option Expr))) → GuardKind
+action_of (inl _) = action.Tau
+action_of (inr (inl p)) = input_of p
+action_of (inr (inr (_, q))) = output_of q
+
+-- 'tau' | 'from' input | 'to' output
 unfoldable pub guard_action : Reader GuardKind
-guard_action = mapped action_of (choice (item (codes "tau")) nothing (choice (item (codes "from")) input (both (token (item (codes "to"))) output)))
+guard_action =
+    mapped action_of
+    (choice (item (codes "tau")) nothing
+    (choice (item (codes "from")) input (both (token (item (codes "to"))) output)))
 
-abbrev pub guard_of : GuardKind × (List Atom × (List Assign × (Unit {0} × (Text × Unit {0})))) → Guard
-guard_of p = record { kind = p.0; conds = p.1.0; assigns = p.1.1.0; next = p.1.1.1.1.0 }
+-- the guard of the parts that were read
+abbrev pub guard_of :
+    GuardKind × (List Atom × (List Assign × (Unit {0} × (Text × Unit {0})))) → Guard
+guard_of (kind, (conds, (assigns, (_, (next, _))))) =
+    record { kind = kind; conds = conds; assigns = assigns; next = next }
 
+-- guard_action conditions assignments 'goto' NAME ';'
 unfoldable pub guard : Reader Guard
-guard = mapped guard_of (both guard_action (both conditions (both assignments (both (word (codes "goto")) (both name (token semicolon))))))
+guard =
+    mapped guard_of
+    (both guard_action (both conditions (both assignments
+    (both (word (codes "goto")) (both name (token semicolon))))))
 
+-- the words with one of which a guard begins
 abbrev pub guard_words : List Text
 guard_words = codes "tau" ∷ codes "from" ∷ codes "to" ∷ []
 
+-- the state of the parts that were read
 abbrev pub state_of : Unit {0} × (Text × (Unit {0} × (List Guard × Unit {0}))) → State
-state_of p = record { name = p.1.0; guards = p.1.1.1.0 }
+state_of (_, (name, (_, (guards, _)))) = record { name = name; guards = guards }
 
+-- 'state' NAME '{' guard* '}'
 unfoldable pub state : Reader State
-state = mapped state_of (both (token (item (codes "state"))) (both name (both (token opening) (both (many_at guard_words guard) (token closing)))))
+state =
+    mapped state_of
+    (both (token (item (codes "state"))) (both name
+    (both (token opening) (both (many_at guard_words guard) (token closing)))))
 
-abbrev pub process_of : Unit {0} × (List Var × (Unit {0} × (Text × (Unit {0} × (List State × Unit {0}))))) → Process
-process_of p = record { vars = p.1.0; start = p.1.1.1.0; states = p.1.1.1.1.1.0 }
+-- the process of the parts that were read
+abbrev pub process_of :
+    Unit {0} × (List Var × (Unit {0} × (Text × (Unit {0} × (List State × Unit {0}))))) → Process
+process_of (_, (vars, (_, (start, (_, (states, _)))))) =
+    record { vars = vars; start = start; states = states }
 
+-- '{' variable* 'start' NAME ';' state* '}'
 unfoldable pub process : Reader Process
 process =
-    mapped process_of (both (token opening) (both (many_at (codes "var" ∷ []) variable) (both (token (item (codes "start")))
-    (both name (both (token semicolon) (both (many_at (codes "state" ∷ []) state) (token closing)))))))
+    mapped process_of
+    (both (token opening) (both (many_at (codes "var" ∷ []) variable)
+    (both (token (item (codes "start"))) (both name (both (token semicolon)
+    (both (many_at (codes "state" ∷ []) state) (token closing)))))))
 
-abbrev pub protocol_of : Unit {0} × (Text × (Unit {0} × (List Message × (Unit {0} × (Process × (Unit {0} × Process)))))) → Protocol
-protocol_of p = record { name = p.1.0; messages = p.1.1.1.0; home = p.1.1.1.1.1.0; remote = p.1.1.1.1.1.1.1 }
+-- the protocol of the parts that were read
+abbrev pub protocol_of :
+    Unit {0} × (Text × (Unit {0} × (List Message × (Unit {0} × (Process × (Unit {0} × Process))))))
+    → Protocol
+protocol_of (_, (name, (_, (messages, (_, (home, (_, remote))))))) =
+    record { name = name; messages = messages; home = home; remote = remote }
 
+-- 'protocol' NAME ';' message* 'home' process 'remote' process
 unfoldable pub protocol : Reader Protocol
 protocol =
-    mapped protocol_of (both (token (item (codes "protocol"))) (both name (both (token semicolon) (both (many_at (codes "message" ∷ []) message)
-    (both (token (item (codes "home"))) (both process (both (token (item (codes "remote"))) process)))))))
+    mapped protocol_of
+    (both (token (item (codes "protocol"))) (both name (both (token semicolon)
+    (both (many_at (codes "message" ∷ []) message)
+    (both (token (item (codes "home"))) (both process
+    (both (token (item (codes "remote"))) process)))))))
 
--- the protocol, and nothing behind it
+-- A protocol, and nothing behind it. Where something is, reading stops there.
 unfoldable pub file : Reader Protocol
 file = λ at. and_then (protocol at) (λ p new. if at_end new then Ok (p, new) else Err (line_at new))

@@ -11,9 +11,10 @@ use rv_base::{Items, NoMemory};
 use std::alloc::Global;
 use std::marker::Model;
 
-/// A place in a file: the next lexeme with its line, the bytes behind it, and the lines of the items
-/// so far. Contracts see it as the lexemes from the next one on and these lines. Each byte of the
-/// file is read a constant number of times, when the lexeme or the gap that it stands in is passed.
+/// A place in a file: the next lexeme with its line, the bytes behind it, and the lines of the
+/// items so far. Contracts see it as the lexemes from the next one on and these lines. Each byte of
+/// the file is read a constant number of times, when the lexeme or the gap that it stands in is
+/// passed.
 #[derive(Drop)]
 pub struct Cursor<'a> {
     text: &'a [u8],

@@ -1,6 +1,7 @@
 //! Cuts the lexeme in front of some bytes.
 
-ghost use Rattle.std.specs.Prelude.{◌≡◌, ℕ, ◌+◌, ◌<◌, ◌≤◌, ◌^◌, ◌==◌, length, take, drop, not, true, false};
+ghost use Rattle.std.specs.Prelude.{◌≡◌, ℕ, ◌+◌, ◌<◌, ◌≤◌, ◌^◌, ◌==◌, length, take, drop};
+ghost use Rattle.std.specs.Prelude.{not, true, false};
 ghost use Rattle.std.specs.List.{prefix_len};
 ghost use Rattle.proto_model.specs.Tokens as tokens;
 ghost use Rattle.proto_model.specs.Lexemes as lexemes;
@@ -103,7 +104,8 @@ fn after_gap(bytes: &[u8], line: u32) -> (&[u8], u32)
 /// The lexeme in front of bytes that begin on this line.
 pub fn next_lexeme(bytes: &[u8], line: u32) -> Front<'_>
     requires { line + length bytes.now < 2 ^ 32 }
-    ensures cut { cut false line bytes.now ≡ lexemes_from result.text.now result.line result.rest.now }
+    ensures cut { cut false line bytes.now
+        ≡ lexemes_from result.text.now result.line result.rest.now }
     ensures lines { result.line + length result.rest.now < 2 ^ 32 }
 {
     let (bytes, line) = after_gap(bytes, line);

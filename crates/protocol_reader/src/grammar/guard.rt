@@ -66,7 +66,7 @@ fn guard_action(alloc: Global, cursor: &mut Cursor<'_>) -> Result<GuardKind, Rea
 /// `partner ? NAME [(NAME)]`
 #[tactic(auto, unfolding(crate::specs::Reading::input))]
 fn input(alloc: Global, cursor: &mut Cursor<'_>) -> Result<GuardKind, ReadError>
-    ensures { Reads (spec.mapped (λ p. GuardKind.Input p.0 p.1.1.0 p.1.1.1) spec.input cursor.old) result cursor.new }
+    ensures { Reads (spec.mapped spec.input_of spec.input cursor.old) result cursor.new }
 {
     let partner = partner(alloc, cursor)?;
     expect(cursor, b"?")?;
@@ -78,7 +78,7 @@ fn input(alloc: Global, cursor: &mut Cursor<'_>) -> Result<GuardKind, ReadError>
 /// `partner ! NAME [(expression)]`
 #[tactic(auto, unfolding(crate::specs::Reading::output))]
 fn output(alloc: Global, cursor: &mut Cursor<'_>) -> Result<GuardKind, ReadError>
-    ensures { Reads (spec.mapped (λ p. GuardKind.Output p.0 p.1.1.0 p.1.1.1) spec.output cursor.old) result cursor.new }
+    ensures { Reads (spec.mapped spec.output_of spec.output cursor.old) result cursor.new }
 {
     let partner = partner(alloc, cursor)?;
     expect(cursor, b"!")?;

@@ -35,7 +35,8 @@ fn each<T: Repeated>(
     cursor: &mut Cursor<'_>,
     mut items: Items<T>,
 ) -> Result<Items<T>, ReadError>
-    ensures { Reads (mapped (λ more. items ++ more) (many_at T.words T.reader) cursor.old) result cursor.new }
+    ensures { Reads (mapped (λ more. items ++ more) (many_at T.words T.reader) cursor.old)
+        result cursor.new }
 {
     'each: while is_among(T::words(), cursor.text()) {
         let item = T::read(alloc, cursor)?;
@@ -57,7 +58,8 @@ pub fn and_all<T: Repeated>(
     cursor: &mut Cursor<'_>,
     first: T,
 ) -> Result<Items<T>, ReadError>
-    ensures { Reads (mapped (λ more. first ∷ more) (many_at T.words T.reader) cursor.old) result cursor.new }
+    ensures { Reads (mapped (λ more. first ∷ more) (many_at T.words T.reader) cursor.old)
+        result cursor.new }
 {
     let mut items = Items::new(alloc);
     items.push(first)?;

@@ -37,7 +37,8 @@ pub fn begin(cursor: &mut Cursor<'_>, word: &[u8]) -> Result<(), ReadError>
 pub fn takes(cursor: &mut Cursor<'_>, word: &[u8]) -> bool
     requires { word.now ≢ [] }
     ensures told { result ≡ spec.sees word.now cursor.old }
-    ensures taken { cursor.new ≡ (if result then spec.after (part word.now) cursor.old else cursor.old) }
+    ensures taken { cursor.new
+        ≡ (if result then spec.after (part word.now) cursor.old else cursor.old) }
 {
     let seen = cursor.sees(word);
     if seen {
@@ -51,7 +52,8 @@ pub fn takes(cursor: &mut Cursor<'_>, word: &[u8]) -> bool
 pub fn begins(cursor: &mut Cursor<'_>, word: &[u8]) -> Result<bool, NoMemory>
     requires { word.now ≢ [] }
     ensures told { IfOk result (λ seen. seen ≡ spec.sees word.now cursor.old) }
-    ensures taken { IfOk result (λ seen. cursor.new ≡ (if seen then spec.after (item word.now) cursor.old else cursor.old)) }
+    ensures taken { IfOk result (λ seen.
+        cursor.new ≡ (if seen then spec.after (item word.now) cursor.old else cursor.old)) }
 {
     if !cursor.sees(word) {
         return Ok(false);

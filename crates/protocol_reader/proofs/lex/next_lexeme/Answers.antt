@@ -11,5 +11,6 @@ returns-clause-cut c =
     let size : lexeme_size bytes ≡ c.min-size.result = omega arith in
     c.after_gap-line.ensures.cut ∙ lexeme_in_front line bytes c.after_gap-line.ensures.lexeme
     ∙ ap (λ n. lexemes_from (take n bytes) line (drop n bytes)) size
-    ∙ ap (λ (x : Text). lexemes_from x line (drop c.min-size.result bytes)) (sym c.split_at.ensures.front)
+    ∙ ap (λ (x : Text). lexemes_from x line (drop c.min-size.result bytes))
+    (sym c.split_at.ensures.front)
     ∙ ap (λ (x : Text). lexemes_from c.split_at.result.0.now line x) (sym c.split_at.ensures.back)

@@ -9,4 +9,6 @@ pub returns-clause-lines : goal.returns-clause-lines
 returns-clause-lines c =
     let inside = c.self.inside in
     let marked = marked_here inside.text.now inside.line inside.rest.now inside.lines in
-    on_ok_weaker c.push.result (λ pushed. pushed ∙ marked ∙ ap (λ (a : At). (after (item []) a).lines) c.self.view_is) c.push.ensures.ok
+    on_ok_weaker c.push.result
+    (λ pushed. pushed ∙ marked ∙ ap (λ (a : At). (after (item []) a).lines) c.self.view_is)
+    c.push.ensures.ok

@@ -7,4 +7,6 @@ use Rattle.protocol_reader.proofs.cursor.Cursor.refuse.Goals as goal
 pub returns : goal.returns
 returns c =
     let inside = c.self.inside in
-    ap Syntax (sym (line_here inside.text.now inside.line inside.rest.now inside.lines) ∙ ap line_at c.self.view_is)
+    ap Syntax
+    (sym (line_here inside.text.now inside.line inside.rest.now inside.lines)
+    ∙ ap line_at c.self.view_is)

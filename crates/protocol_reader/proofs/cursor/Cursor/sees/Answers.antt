@@ -7,4 +7,5 @@ pub returns : goal.returns
 returns c =
     let inside = c.self.inside in
     let word = c.args.word.now in
-    c.eq.ensures ∙ sym (sees_here word inside.text.now inside.line inside.rest.now inside.lines) ∙ ap (sees word) c.self.view_is
+    c.eq.ensures ∙ sym (sees_here word inside.text.now inside.line inside.rest.now inside.lines)
+    ∙ ap (sees word) c.self.view_is

@@ -10,8 +10,12 @@ same_text at marked e = rw e refl
 
 pub advance-requires : goal.advance-requires
 advance-requires c = λ h.
-    sees_some c.args.word.now c.args.cursor.now c.requires (sym c.sees.ensures ∙ c.if-not-sees.false)
+    sees_some c.args.word.now c.args.cursor.now c.requires
+    (sym c.sees.ensures ∙ c.if-not-sees.false)
     (sym (same_text c.args.cursor.now c.mark.new.self c.in_ok-mark.ensures.lexemes) ∙ h)
 
 pub returns-clause-taken : goal.returns-clause-taken
-returns-clause-taken c = c.advance.ensures ∙ after_item c.args.word.now c.args.cursor.now c.mark.new.self c.in_ok-mark.ensures.lexemes c.in_ok-mark.ensures.lines
+returns-clause-taken c =
+    c.advance.ensures
+    ∙ after_item c.args.word.now c.args.cursor.now c.mark.new.self c.in_ok-mark.ensures.lexemes
+    c.in_ok-mark.ensures.lines
