@@ -1,10 +1,11 @@
 -- Lists of rows in which each row has a place and a trigger of its own.
 use Rattle.std.proofs.Common.{◌≡◌, ℕ, zero, suc, ◌+◌, ◌≤◌, List, [], ◌∷◌, ◌++◌, Some, slice_get, refl, sym, ap, ◌∙◌, arith}
 use Rattle.std.specs.List.{AllByRecursion}
-use Rattle.proto_model.proofs.Elements.{AllByRecursion-at}
+use Rattle.rv_base.specs.Lists.{flat_from}
+use Rattle.rv_base.proofs.Lists.{AllByRecursion-append, AllByRecursion-weaker}
+use Rattle.rv_base.proofs.Lists.{AllByRecursion-from_at, AllByRecursion-at}
 use Rattle.controller_table.specs.Keys.{NoTwoShareKey}
 use Rattle.controller_table.specs.OneRow.{HasKey, NoneHasKey, IsOnlyRow}
-use Rattle.controller_table.specs.Rows.{flat_from}
 use Rattle.controller_table.specs.declared.rows.Place.{Place}
 use Rattle.controller_table.specs.declared.rows.Trigger.{Trigger}
 use Rattle.controller_table.specs.declared.rows.Row.{Row}
@@ -14,31 +15,15 @@ abbrev pub AllApart : List Row → Type 0
 AllApart [] = Unit {0}
 AllApart (row ∷ rows) = NoneHasKey row.at row.on rows × AllApart rows
 
--- ---- each item of a list
-
-pub each-append : {X : Type 0} (P : X → Type 0) (xs ys : List X)
-    → AllByRecursion P xs → AllByRecursion P ys → AllByRecursion P (xs ++ ys)
-each-append P [] ys p q = q
-each-append P (x ∷ xs) ys p q = (p.0, each-append P xs ys p.1 q)
-
-pub each-weaker : {X : Type 0} (P Q : X → Type 0) (xs : List X)
-    → ((x : X) → P x → Q x) → AllByRecursion P xs → AllByRecursion Q xs
-each-weaker P Q [] f p = tt
-each-weaker P Q (x ∷ xs) f p = (f x p.0, each-weaker P Q xs f p.1)
-
-pub each-flat : {A B : Type 0} (P : B → Type 0) (give : ℕ → A → List B) (from : ℕ) (items : List A)
-    → ((i : ℕ) (item : A) → AllByRecursion P (give i item)) → AllByRecursion P (flat_from give from items)
-each-flat P give from [] each = tt
-each-flat P give from (item ∷ items) each =
-    each-append P (give from item) (flat_from give (from + 1) items) (each from item) (each-flat P give (from + 1) items each)
-
 -- ---- one list behind another
 
 pub apart-append : (xs ys : List Row) → AllApart xs → AllApart ys
     → AllByRecursion (λ x. NoneHasKey x.at x.on ys) xs → AllApart (xs ++ ys)
 apart-append [] ys p q across = q
-apart-append (x ∷ xs) ys p q across =
-    (each-append (λ row. HasKey x.at x.on row → ⊥) xs ys p.0 across.0, apart-append xs ys p.1 q across.1)
+apart-append (x ∷ xs) ys p q across = (
+  AllByRecursion-append (λ row. HasKey x.at x.on row → ⊥) xs ys p.0 across.0,
+  apart-append xs ys p.1 q across.1,
+)
 
 -- ---- what the items of a list give, where a number of each row is told by its key alone and is the
 -- place of the item that gives it
@@ -53,9 +38,11 @@ module _ {A : Type 0} (give : ℕ → A → List Row) (owner : Place → Trigger
   flat-behind : (from : ℕ) (items : List A) → AllByRecursion (IsBehind from) (flat_from give from items)
   flat-behind from [] = tt
   flat-behind from (item ∷ items) =
-      each-append (IsBehind from) (give from item) (flat_from give (from + 1) items)
-      (each-weaker (IsOwned from) (IsBehind from) (give from item) (λ row e. omega arith) (owned from item))
-      (each-weaker (IsBehind (from + 1)) (IsBehind from) (flat_from give (from + 1) items) (λ row e. omega arith) (flat-behind (from + 1) items))
+      AllByRecursion-append (IsBehind from) (give from item) (flat_from give (from + 1) items)
+      (AllByRecursion-weaker (IsOwned from) (IsBehind from) (give from item) (λ row e. omega arith)
+      (owned from item))
+      (AllByRecursion-weaker (IsBehind (from + 1)) (IsBehind from) (flat_from give (from + 1) items)
+      (λ row e. omega arith) (flat-behind (from + 1) items))
 
   another : (from : ℕ) (a b : Row) → IsOwned from a → IsBehind (from + 1) b → HasKey a.at a.on b → ⊥
   another from a b here behind key =
@@ -68,8 +55,8 @@ module _ {A : Type 0} (give : ℕ → A → List Row) (owner : Place → Trigger
   apart-flat from (item ∷ items) each =
       let rest : List Row = flat_from give (from + 1) items in
       apart-append (give from item) rest (each from item) (apart-flat (from + 1) items each)
-      (each-weaker (IsOwned from) (λ a. NoneHasKey a.at a.on rest) (give from item)
-      (λ a here. each-weaker (IsBehind (from + 1)) (λ b. HasKey a.at a.on b → ⊥) rest
+      (AllByRecursion-weaker (IsOwned from) (λ a. NoneHasKey a.at a.on rest) (give from item)
+      (λ a here. AllByRecursion-weaker (IsBehind (from + 1)) (λ b. HasKey a.at a.on b → ⊥) rest
       (λ b behind. another from a b here behind) (flat-behind (from + 1) items))
       (owned from item))
 
@@ -89,15 +76,12 @@ apart-places (row ∷ rows) apart (suc i) zero a b there here at on =
 apart-places (row ∷ rows) apart (suc i) (suc j) a b there here at on =
     ap (λ (n : ℕ). suc n) (apart-places rows apart.1 i j a b there here at on)
 
-each-from-at : {X : Type 0} (P : X → Type 0) (xs : List X)
-    → ((i : ℕ) (x : X) → slice_get xs i ≡ Some x → P x) → AllByRecursion P xs
-each-from-at P [] p = tt
-each-from-at P (x ∷ xs) p = (p 0 x refl, each-from-at P xs (λ i y there. p (suc i) y there))
-
 pub places-apart : (rows : List Row) → NoTwoShareKey rows → AllApart rows
 places-apart [] differ = tt
 places-apart (row ∷ rows) differ = (
-  each-from-at (λ r. HasKey row.at row.on r → ⊥) rows (λ i r there key. absurd (let same = differ 0 (suc i) row r refl there (sym key.0) (sym key.1) in omega arith)),
+  AllByRecursion-from_at (λ r. HasKey row.at row.on r → ⊥) rows
+      (λ i r there key. absurd
+      (let same = differ 0 (suc i) row r refl there (sym key.0) (sym key.1) in omega arith)),
   places-apart rows (λ i j a b there here at on. let same = differ (suc i) (suc j) a b there here at on in omega arith),
 )
 
@@ -112,7 +96,8 @@ apart-only (first ∷ rows) zero row at on apart there key =
       rows,
       ap (λ (r : Row). r ∷ rows) same,
       tt,
-      each-weaker (λ r. HasKey first.at first.on r → ⊥) (λ r. HasKey at on r → ⊥) rows (λ r no_key k. no_key (cc, cc)) apart.0,
+      AllByRecursion-weaker (λ r. HasKey first.at first.on r → ⊥) (λ r. HasKey at on r → ⊥) rows
+          (λ r no_key k. no_key (cc, cc)) apart.0,
     )
 apart-only (first ∷ rows) (suc i) row at on apart there key =
     let rest = apart-only rows i row at on apart.1 there key in

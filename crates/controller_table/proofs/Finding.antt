@@ -2,6 +2,7 @@
 use Rattle.std.proofs.Common.{◌≡◌, ℕ, zero, suc, ◌+◌, ◌<◌, Bool, true, false, cond, List, [], ◌∷◌, ◌++◌, length, take, get_or, Option, Some, None, slice_get, refl, sym, subst, ◌∙◌, arith}
 use Rattle.std.proofs.lemmas.List.{take_more, length-take-le}
 use Rattle.std.proofs.lemmas.Option.{get_or_from_slice_get}
+use Rattle.rv_base.proofs.Lists.{AllByRecursion-append}
 use Rattle.controller_table.specs.Keys.{NoTwoShareKey}
 use Rattle.controller_table.specs.Indexed.{Finds}
 use Rattle.controller_table.specs.OneRow.{HasKey, IsOnlyRow}
@@ -10,7 +11,7 @@ use Rattle.controller_table.specs.declared.index.Key.{Key}
 use Rattle.controller_table.specs.declared.rows.Place.{Place}
 use Rattle.controller_table.specs.declared.rows.Trigger.{Trigger}
 use Rattle.controller_table.specs.declared.rows.Row.{Row}
-use Rattle.controller_table.proofs.Apart.{each-append, apart-only, places-apart}
+use Rattle.controller_table.proofs.Apart.{apart-only, places-apart}
 use Rattle.controller_table.proofs.SameKey.{same_key-same, same_key-itself}
 
 at-front : {X : Type 0} (xs ys : List X) (i : ℕ) (x : X) → slice_get xs i ≡ Some x → slice_get (xs ++ ys) i ≡ Some x
@@ -28,7 +29,7 @@ at-end (y ∷ xs) (suc i) x e = at-end xs i x (omega arith)
 finds-other : (rows : List Row) (row : Row) (at : Place) (on : Trigger) (found : Option ℕ)
     → (HasKey at on row → ⊥) → Finds rows at on found → Finds (rows ++ row ∷ []) at on found
 finds-other rows row at on None other finds =
-    each-append (λ r. HasKey at on r → ⊥) rows (row ∷ []) finds (other, tt)
+    AllByRecursion-append (λ r. HasKey at on r → ⊥) rows (row ∷ []) finds (other, tt)
 finds-other rows row at on (Some i) other finds =
     (finds.0, at-front rows (row ∷ []) i finds.0 finds.1, finds.2)
 

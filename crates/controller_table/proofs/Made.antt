@@ -3,20 +3,23 @@ use Rattle.std.proofs.Common.{◌≡◌, ℕ, List, Option, sym, ap, subst, ◌�
 use Rattle.proto_model.specs.Tokens.{Text}
 use Rattle.proto_model.specs.Numbered.{NumberedProtocol}
 use Rattle.proto_model.specs.Proper.{IsProper}
+use Rattle.proto_model.specs.Guards.{bare_body}
+use Rattle.proto_model.proofs.Bare.{bare_body-bare}
 use Rattle.proto_model.specs.Pairs.{replies_of}
 use Rattle.proto_model.specs.declared.mode.Mode.{Mode}
 use Rattle.proto_model.specs.declared.numbered.MessageInfo.{MessageInfo}
 use Rattle.controller_table.specs.Keys.{NoTwoShareKey}
 use Rattle.controller_table.specs.Rows.{home_rows, remote_rows}
-use Rattle.controller_table.specs.Sound.{Tabled, IsSound, MakesTable, with_nexts, without_nexts, next_by, told_by_rows, protocol_of, protocol_with, table_of}
+use Rattle.controller_table.specs.Sound.{Tabled, IsSound, MakesTable, with_nexts, next_by}
+use Rattle.controller_table.specs.Sound.{told_by_rows, protocol_of, protocol_with, table_of}
 use Rattle.controller_table.specs.declared.controller.Controller.{Controller}
 use Rattle.controller_table.specs.declared.rows.Row.{Row}
 use Rattle.controller_table.proofs.Apart.{apart-places}
 use Rattle.controller_table.proofs.RowsApart.{home_rows-apart, remote_rows-apart}
-use Rattle.controller_table.proofs.Told.{home-told, remote-told}
-use Rattle.controller_table.proofs.WithNexts.{with_nexts-with_nexts}
+use Rattle.controller_table.proofs.Told.{home-bare, remote-bare}
 
-module _ (name : Text) (mode : Mode) (messages : List MessageInfo) (replies : List (Option ℕ)) (home remote : Controller) (makes : MakesTable name mode messages replies home remote) where
+module _ (name : Text) (mode : Mode) (messages : List MessageInfo) (replies : List (Option ℕ))
+    (home remote : Controller) (makes : MakesTable name mode messages replies home remote) where
   -- the protocol of the parts
   abbrev whole : NumberedProtocol
   whole = protocol_with name messages home remote
@@ -37,18 +40,25 @@ module _ (name : Text) (mode : Mode) (messages : List MessageInfo) (replies : Li
 
   made-protocol : protocol_of made ≡ whole
   made-protocol =
-      let first = subst (λ (rows : List Row). with_nexts (next_by rows) (without_nexts home.body) ≡ home.body) (sym makes.same_home) (home-told whole mode (λ g. 0)) in
-      let second = subst (λ (rows : List Row). with_nexts (next_by rows) (without_nexts remote.body) ≡ remote.body) (sym makes.same_remote) (remote-told whole mode (λ g. 0)) in
+      let first =
+      subst (λ (rows : List Row). with_nexts (next_by rows) (bare_body home.body) ≡ home.body)
+      (sym makes.same_home) (home-bare whole mode) in
+      let second =
+      subst (λ (rows : List Row). with_nexts (next_by rows) (bare_body remote.body) ≡ remote.body)
+      (sym makes.same_remote) (remote-bare whole mode) in
       cc
 
   made-sound : IsSound made
   made-sound = record {
     proper = subst IsProper (sym made-protocol) makes.proper;
-    home_nexts = sym (with_nexts-with_nexts (λ g. 0) (λ g. 0) home.body);
-    remote_nexts = sym (with_nexts-with_nexts (λ g. 0) (λ g. 0) remote.body);
-    replies = makes.same_replies ∙ ap (λ (p : NumberedProtocol). replies_of p mode) (sym made-protocol);
-    home_rows = makes.same_home ∙ ap (λ (p : NumberedProtocol). home_rows p mode) (sym made-protocol);
-    remote_rows = makes.same_remote ∙ ap (λ (p : NumberedProtocol). remote_rows p mode) (sym made-protocol);
+    home_nexts = sym (bare_body-bare home.body);
+    remote_nexts = sym (bare_body-bare remote.body);
+    replies = makes.same_replies
+        ∙ ap (λ (p : NumberedProtocol). replies_of p mode) (sym made-protocol);
+    home_rows = makes.same_home
+        ∙ ap (λ (p : NumberedProtocol). home_rows p mode) (sym made-protocol);
+    remote_rows = makes.same_remote
+        ∙ ap (λ (p : NumberedProtocol). remote_rows p mode) (sym made-protocol);
   }
 
   -- ---- no two rows of a controller share a key
@@ -65,7 +75,8 @@ module _ (name : Text) (mode : Mode) (messages : List MessageInfo) (replies : Li
 
   -- ---- the table with controllers that are told by their rows
 
-  module _ (first second : Controller) (first-is : first ≡ told_by_rows home) (second-is : second ≡ told_by_rows remote) where
+  module _ (first second : Controller) (first-is : first ≡ told_by_rows home)
+      (second-is : second ≡ told_by_rows remote) where
     same-table : made_with first second ≡ made
     same-table = cc
 

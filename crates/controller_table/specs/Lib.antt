@@ -3,4 +3,3 @@ pub mod Sound
 pub mod OneRow
 pub mod Keys
 pub mod Indexed
-pub mod Bare

@@ -1,8 +1,11 @@
 -- The rows of the two controllers that a protocol compiles to.
-use Rattle.std.specs.Prelude.{ℕ, ◌+◌, Bool, true, false, not, ◌&&◌, ◌==◌, List, [], ◌∷◌, ◌++◌, Option, Some, None, slice_get, zip}
+use Rattle.std.specs.Prelude.{ℕ, ◌+◌, Bool, true, false, not, ◌&&◌, ◌==◌, List, [], ◌∷◌, ◌++◌}
+use Rattle.std.specs.Prelude.{Option, Some, None, slice_get, zip}
 use Rattle.std.specs.Option.{option_map_or, option_and_then}
 use Rattle.std.specs.List.{list_any}
+use Rattle.rv_base.specs.Lists.{flat_from}
 use Rattle.proto_model.specs.Numbered.{NumberedProtocol}
+use Rattle.proto_model.specs.Guards.{guard_at}
 use Rattle.proto_model.specs.Proper.{is_output_kind}
 use Rattle.proto_model.specs.Pairs.{replies_of}
 use Rattle.proto_model.specs.declared.mode.Mode.{Mode}
@@ -16,17 +19,14 @@ use Rattle.controller_table.specs.declared.rows.GuardId.{GuardId}
 use Rattle.controller_table.specs.declared.rows.Place.{Place}
 use Rattle.controller_table.specs.declared.rows.Place.TheVariants.{Comm, Trans, Due}
 use Rattle.controller_table.specs.declared.rows.Trigger.{Trigger}
-use Rattle.controller_table.specs.declared.rows.Trigger.TheVariants.{Tau, Send, Pay, Take, Answer, AnswerNone, GotAck, GotNack, GotReply, GotRequest}
+use Rattle.controller_table.specs.declared.rows.Trigger.TheVariants.{Tau, Send, Pay, Take, Answer}
+use Rattle.controller_table.specs.declared.rows.Trigger.TheVariants.{AnswerNone, GotAck, GotNack}
+use Rattle.controller_table.specs.declared.rows.Trigger.TheVariants.{GotReply, GotRequest}
 use Rattle.controller_table.specs.declared.rows.Puts.{Puts}
 use Rattle.controller_table.specs.declared.rows.Puts.TheVariants as puts
 use Rattle.controller_table.specs.declared.rows.Does.{Does}
 use Rattle.controller_table.specs.declared.rows.Does.TheVariants as does
 use Rattle.controller_table.specs.declared.rows.Row.{Row}
-
--- what each item of a list gives, which stands at this place and behind so many others
-abbrev pub flat_from : {A B : Type 0} → (ℕ → A → List B) → ℕ → List A → List B
-flat_from f place [] = []
-flat_from f place (item ∷ items) = f place item ++ flat_from f (place + 1) items
 
 abbrev pub guard_id : ℕ → ℕ → GuardId
 guard_id state guard = record { state = state; guard = guard }
@@ -34,11 +34,10 @@ guard_id state guard = record { state = state; guard = guard }
 abbrev pub row : Place → Trigger → Puts → Does → Place → Row
 row at on what done to = record { at = at; on = on; puts = what; does = done; to = to }
 
--- The state to which the first rule of a state goes. Where a reply is awaited, the state has that rule
--- alone.
+-- The state to which the first rule of a state goes. Where a reply is awaited, the state has that
+-- rule alone.
 abbrev pub next_of_first : Body → ℕ → ℕ
-next_of_first body state =
-    option_map_or (λ rule. rule.next) (option_and_then (λ s. slice_get s.rules 0) (slice_get body.states state)) 0
+next_of_first body state = option_map_or (λ rule. rule.next) (guard_at body state 0) 0
 
 -- ---- rows of both sides
 
@@ -50,12 +49,13 @@ tau_row g rule = row (Comm g.state) (Tau g.guard) puts.Nothing (does.One g) (Com
 abbrev pub send_row : GuardId → ℕ → Row
 send_row g m = row (Comm g.state) (Send g.guard) (puts.Request m) does.Nothing (Trans g)
 
--- The request was answered. An ack completes the guard. A reply completes it, and then the one guard of
--- the state to which it goes, which awaits the reply.
+-- The request was answered. An ack completes the guard. A reply completes it, and then the one
+-- guard of the state to which it goes, which awaits the reply.
 abbrev pub answered_row : Body → GuardId → Rule → Option ℕ → Row
 answered_row body g rule None = row (Trans g) GotAck puts.Nothing (does.One g) (Comm rule.next)
 answered_row body g rule (Some p) =
-    row (Trans g) (GotReply p) puts.Nothing (does.Two g (guard_id rule.next 0)) (Comm (next_of_first body rule.next))
+    row (Trans g) (GotReply p) puts.Nothing (does.Two g (guard_id rule.next 0))
+    (Comm (next_of_first body rule.next))
 
 -- Where the request is not granted, the process stands again where it was.
 abbrev pub back_row : GuardId → Trigger → Row
@@ -63,52 +63,93 @@ back_row g on = row (Trans g) on puts.Nothing does.Nothing (Comm g.state)
 
 -- ---- replies
 
+-- the reply of message m, where these are the replies of all messages
+abbrev pub reply_at : List (Option ℕ) → ℕ → Option ℕ
+reply_at replies m = option_and_then (λ r. r) (slice_get replies m)
+
+-- message p is the reply of this message, which goes up
+abbrev pub answers_up : ℕ → MessageInfo × Option ℕ → Bool
+answers_up p message = message.0.up && option_map_or (λ r. r == p) message.1 false
+
+-- message p is the reply of this message, which goes down
+abbrev pub answers_down : ℕ → MessageInfo × Option ℕ → Bool
+answers_down p message = not message.0.up && option_map_or (λ r. r == p) message.1 false
+
+-- message p is the reply of some up message
+abbrev pub is_reply_down : List MessageInfo → List (Option ℕ) → ℕ → Bool
+is_reply_down messages replies p = list_any (answers_up p) (zip messages replies)
+
+-- message p is the reply of some down message
+abbrev pub is_reply_up : List MessageInfo → List (Option ℕ) → ℕ → Bool
+is_reply_up messages replies p = list_any (answers_down p) (zip messages replies)
+
+-- ---- rows of the home
+
+-- what the home puts for a request that it takes: an ack, or nothing, and then it owes the reply
+abbrev pub taken : Option ℕ → Puts
+taken None = puts.Ack
+taken (Some p) = puts.Owe p
+
+-- The home takes a request that it holds by an input.
+abbrev pub take_row : GuardId → Rule → Option ℕ → Row
+take_row g rule reply =
+    row (Comm g.state) (Take g.guard) (taken reply) (does.One g) (Comm rule.next)
+
+-- By an output of a message that is a reply the home pays where it owes this reply.
+abbrev pub pay_row : GuardId → Rule → ℕ → Row
+pay_row g rule m = row (Comm g.state) (Pay g.guard) (puts.Reply m) (does.One g) (Comm rule.next)
+
+abbrev pub pay_rows : Bool → GuardId → Rule → ℕ → List Row
+pay_rows false g rule m = []
+pay_rows true g rule m = pay_row g rule m ∷ []
+
+-- ---- rows of a remote
+
+-- A remote that is due sends the reply by its output, and goes to its next state.
+abbrev pub due_row : GuardId → Rule → ℕ → Row
+due_row g rule q = row (Due g) (Send g.guard) (puts.Reply q) (does.One g) (Comm rule.next)
+
+abbrev pub due_rows : Bool → GuardId → Rule → ℕ → List Row
+due_rows false g rule q = []
+due_rows true g rule q = due_row g rule q ∷ []
+
+-- A remote answers a request by an input. It puts an ack; or where the message has a reply it puts
+-- nothing, and is then due to send the reply by the one guard of the state to which it goes.
+abbrev pub answer_row : GuardId → Rule → Option ℕ → Row
+answer_row g rule None = row (Comm g.state) (Answer g.guard) puts.Ack (does.One g) (Comm rule.next)
+answer_row g rule (Some p) =
+    row (Comm g.state) (Answer g.guard) puts.Nothing (does.One g) (Due (guard_id rule.next 0))
+
+-- In a passive state a request that no input takes is nacked, and the remote stays. An active
+-- state, one with an output, has no such row.
+abbrev pub last_row : ℕ → Row
+last_row state = row (Comm state) AnswerNone puts.Nack does.Nothing (Comm state)
+
+abbrev pub last_rows : Bool → ℕ → List Row
+last_rows true state = []
+last_rows false state = last_row state ∷ []
+
+-- some guard of the state is an output
+abbrev pub is_active : StateInfo → Bool
+is_active info = list_any (λ rule. is_output_kind rule.kind) info.rules
+
+-- ---- all rows
+
 -- of the messages of a protocol and the reply of each
 module _ (messages : List MessageInfo) (replies : List (Option ℕ)) where
-  -- the reply of message m
-  abbrev pub reply : ℕ → Option ℕ
-  reply m = option_and_then (λ r. r) (slice_get replies m)
-
-  -- message p is the reply of this message, which goes up
-  abbrev pub answers_up : ℕ → MessageInfo × Option ℕ → Bool
-  answers_up p message = message.0.up && option_map_or (λ r. r == p) message.1 false
-
-  -- message p is the reply of this message, which goes down
-  abbrev pub answers_down : ℕ → MessageInfo × Option ℕ → Bool
-  answers_down p message = not message.0.up && option_map_or (λ r. r == p) message.1 false
-
-  -- message p is the reply of some up message
-  abbrev pub is_reply_down : ℕ → Bool
-  is_reply_down p = list_any (answers_up p) (zip messages replies)
-
-  -- message p is the reply of some down message
-  abbrev pub is_reply_up : ℕ → Bool
-  is_reply_up p = list_any (answers_down p) (zip messages replies)
-
-  -- ---- the home
-
-  -- what the home puts for a request that it takes: an ack, or nothing, and then it owes the reply
-  abbrev pub taken : Option ℕ → Puts
-  taken None = puts.Ack
-  taken (Some p) = puts.Owe p
-
-  -- By an output of a message that is a reply the home pays where it owes this reply.
-  abbrev pub pay_rows : Bool → GuardId → Rule → ℕ → List Row
-  pay_rows false g rule m = []
-  pay_rows true g rule m = row (Comm g.state) (Pay g.guard) (puts.Reply m) (does.One g) (Comm rule.next) ∷ []
-
   abbrev pub home_output_rows : Body → GuardId → Rule → ℕ → List Row
   home_output_rows body g rule m =
-      send_row g m ∷ answered_row body g rule (reply m) ∷ back_row g GotNack ∷ back_row g GotRequest ∷ pay_rows (is_reply_down m) g rule m
+      send_row g m ∷ answered_row body g rule (reply_at replies m) ∷ back_row g GotNack
+      ∷ back_row g GotRequest ∷ pay_rows (is_reply_down messages replies m) g rule m
 
   abbrev pub home_action_rows : Body → GuardId → Rule → RuleKind → List Row
   home_action_rows body g rule action.Tau = tau_row g rule ∷ []
-  home_action_rows body g rule (action.Input p m bound) =
-      row (Comm g.state) (Take g.guard) (taken (reply m)) (does.One g) (Comm rule.next) ∷ []
+  home_action_rows body g rule (action.Input p m bound) = take_row g rule (reply_at replies m) ∷ []
   home_action_rows body g rule (action.Output p m sent) = home_output_rows body g rule m
 
   abbrev pub home_guard_rows : Body → ℕ → ℕ → Rule → List Row
-  home_guard_rows body state guard rule = home_action_rows body (guard_id state guard) rule rule.kind
+  home_guard_rows body state guard rule =
+      home_action_rows body (guard_id state guard) rule rule.kind
 
   abbrev pub home_state_rows : Body → ℕ → StateInfo → List Row
   home_state_rows body state info = flat_from (home_guard_rows body state) 0 info.rules
@@ -117,45 +158,27 @@ module _ (messages : List MessageInfo) (replies : List (Option ℕ)) where
   abbrev pub home_rows_of : Body → List Row
   home_rows_of body = flat_from (home_state_rows body) 0 body.states
 
-  -- ---- the remotes
-
-  -- A remote that is due sends the reply by its output, and goes to its next state.
-  abbrev pub due_rows : Bool → GuardId → Rule → ℕ → List Row
-  due_rows false g rule q = []
-  due_rows true g rule q = row (Due g) (Send g.guard) (puts.Reply q) (does.One g) (Comm rule.next) ∷ []
-
   abbrev pub remote_output_rows : Body → GuardId → Rule → ℕ → List Row
   remote_output_rows body g rule q =
-      send_row g q ∷ answered_row body g rule (reply q) ∷ back_row g GotNack ∷ due_rows (is_reply_up q) g rule q
-
-  -- A remote answers a request by an input. It puts an ack; or where the message has a reply it puts
-  -- nothing, and is then due to send the reply by the one guard of the state to which it goes.
-  abbrev pub answer_row : GuardId → Rule → Option ℕ → Row
-  answer_row g rule None = row (Comm g.state) (Answer g.guard) puts.Ack (does.One g) (Comm rule.next)
-  answer_row g rule (Some p) = row (Comm g.state) (Answer g.guard) puts.Nothing (does.One g) (Due (guard_id rule.next 0))
+      send_row g q ∷ answered_row body g rule (reply_at replies q) ∷ back_row g GotNack
+      ∷ due_rows (is_reply_up messages replies q) g rule q
 
   abbrev pub remote_action_rows : Body → GuardId → Rule → RuleKind → List Row
   remote_action_rows body g rule action.Tau = tau_row g rule ∷ []
-  remote_action_rows body g rule (action.Input p m bound) = answer_row g rule (reply m) ∷ []
+  remote_action_rows body g rule (action.Input p m bound) =
+      answer_row g rule (reply_at replies m) ∷ []
   remote_action_rows body g rule (action.Output p q sent) = remote_output_rows body g rule q
 
   abbrev pub remote_guard_rows : Body → ℕ → ℕ → Rule → List Row
-  remote_guard_rows body state guard rule = remote_action_rows body (guard_id state guard) rule rule.kind
-
-  -- In a passive state a request that no input takes is nacked, and the remote stays. An active state,
-  -- one with an output, has no such row.
-  abbrev pub last_rows : Bool → ℕ → List Row
-  last_rows true state = []
-  last_rows false state = row (Comm state) AnswerNone puts.Nack does.Nothing (Comm state) ∷ []
-
-  abbrev pub is_active : StateInfo → Bool
-  is_active info = list_any (λ rule. is_output_kind rule.kind) info.rules
+  remote_guard_rows body state guard rule =
+      remote_action_rows body (guard_id state guard) rule rule.kind
 
   abbrev pub remote_state_rows : Body → ℕ → StateInfo → List Row
-  remote_state_rows body state info = flat_from (remote_guard_rows body state) 0 info.rules ++ last_rows (is_active info) state
+  remote_state_rows body state info =
+      flat_from (remote_guard_rows body state) 0 info.rules ++ last_rows (is_active info) state
 
-  -- the rows of a remote: of each state in file order, of each of its guards in file order, and after
-  -- the guards of a passive state its last row
+  -- the rows of a remote: of each state in file order, of each of its guards in file order, and
+  -- after the guards of a passive state its last row
   abbrev pub remote_rows_of : Body → List Row
   remote_rows_of body = flat_from (remote_state_rows body) 0 body.states
 
@@ -165,4 +188,5 @@ home_rows protocol mode = home_rows_of protocol.messages (replies_of protocol mo
 
 -- the rows of a remote's controller
 abbrev pub remote_rows : NumberedProtocol → Mode → List Row
-remote_rows protocol mode = remote_rows_of protocol.messages (replies_of protocol mode) protocol.remote
+remote_rows protocol mode =
+    remote_rows_of protocol.messages (replies_of protocol mode) protocol.remote

@@ -1,8 +1,10 @@
 -- What a table is, the protocol that its rows tell, and when it is sound.
 use Rattle.std.specs.Prelude.{◌≡◌, ℕ, ◌+◌, Bool, false, ◌&&◌, ◌==◌, List, [], ◌∷◌, Option, find}
 use Rattle.std.specs.Option.{option_map_or}
+use Rattle.rv_base.specs.Lists.{map_from}
 use Rattle.proto_model.specs.Tokens.{Text}
 use Rattle.proto_model.specs.Numbered.{NumberedProtocol}
+use Rattle.proto_model.specs.Guards.{bare_body}
 use Rattle.proto_model.specs.Proper.{IsProper}
 use Rattle.proto_model.specs.Pairs.{replies_of}
 use Rattle.proto_model.specs.declared.mode.Mode.{Mode}
@@ -19,7 +21,8 @@ use Rattle.controller_table.specs.declared.rows.Does.TheVariants as does
 use Rattle.controller_table.specs.declared.rows.Row.{Row}
 use Rattle.controller_table.specs.declared.controller.Controller.{Controller}
 
--- a table: the name of its protocol, its mode, its messages, the reply of each, and the two controllers
+-- a table: the name of its protocol, its mode, its messages, the reply of each, and the two
+-- controllers
 pub record Tabled : Type 0 where
   pub name : Text
   pub mode : Mode
@@ -27,11 +30,6 @@ pub record Tabled : Type 0 where
   pub replies : List (Option ℕ)
   pub home : Controller
   pub remote : Controller
-
--- what each item of a list gives, which stands at this place and behind so many others
-abbrev pub map_from : {A B : Type 0} → (ℕ → A → B) → ℕ → List A → List B
-map_from f place [] = []
-map_from f place (item ∷ items) = f place item ∷ map_from f (place + 1) items
 
 -- the body in which each guard goes to the state that is said of it
 abbrev pub with_nexts : (GuardId → ℕ) → Body → Body
@@ -48,10 +46,6 @@ with_nexts next body = record {
     }) 0 info.rules;
   }) 0 body.states;
 }
-
--- The body of a table says of no guard where it goes: its rows alone do.
-abbrev pub without_nexts : Body → Body
-without_nexts body = with_nexts (λ g. 0) body
 
 -- the state in which a controller stands at this place, or which it has left
 abbrev pub state_of : Place → ℕ
@@ -75,10 +69,11 @@ goes_to does.Nothing to = state_of to
 goes_to (does.One g) to = state_of to
 goes_to (does.Two g h) to = h.state
 
--- The state to which a guard goes, as the rows tell it: the first row whose completed guards begin with
--- it says so.
+-- The state to which a guard goes, as the rows tell it: the first row whose completed guards begin
+-- with it says so.
 abbrev pub next_by : List Row → GuardId → ℕ
-next_by rows g = option_map_or (λ row. goes_to row.does row.to) (find (λ row. begins_with g row.does) rows) 0
+next_by rows g =
+    option_map_or (λ row. goes_to row.does row.to) (find (λ row. begins_with g row.does) rows) 0
 
 abbrev pub body_by_rows : Controller → Body
 body_by_rows controller = with_nexts (next_by controller.rows) controller.body
@@ -92,12 +87,12 @@ protocol_of table = record {
   remote = body_by_rows table.remote;
 }
 
--- A table is sound where its protocol is proper, its bodies say of no guard where it goes, and its
--- replies and its rows are those of its protocol in its mode.
+-- A table is sound where its protocol is proper, its bodies say of no guard where it goes, since
+-- its rows alone do, and its replies and its rows are those of its protocol in its mode.
 pub record IsSound (table : Tabled) : Type 0 where
   pub proper : IsProper (protocol_of table)
-  pub home_nexts : table.home.body ≡ without_nexts table.home.body
-  pub remote_nexts : table.remote.body ≡ without_nexts table.remote.body
+  pub home_nexts : table.home.body ≡ bare_body table.home.body
+  pub remote_nexts : table.remote.body ≡ bare_body table.remote.body
   pub replies : table.replies ≡ replies_of (protocol_of table) table.mode
   pub home_rows : table.home.rows ≡ home_rows (protocol_of table) table.mode
   pub remote_rows : table.remote.rows ≡ remote_rows (protocol_of table) table.mode
@@ -106,8 +101,8 @@ pub record IsSound (table : Tabled) : Type 0 where
 abbrev pub protocol_with : Text → List MessageInfo → Controller → Controller → NumberedProtocol
 protocol_with name messages home remote = record { name = name; messages = messages; home = home.body; remote = remote.body }
 
--- These parts make a table in this mode: they are those of a proper protocol, with its replies and its
--- rows.
+-- These parts make a table in this mode: they are those of a proper protocol, with its replies and
+-- its rows.
 pub record MakesTable (name : Text) (mode : Mode) (messages : List MessageInfo) (replies : List (Option ℕ)) (home remote : Controller) : Type 0 where
   pub proper : IsProper (protocol_with name messages home remote)
   pub same_replies : replies ≡ replies_of (protocol_with name messages home remote) mode
@@ -116,10 +111,11 @@ pub record MakesTable (name : Text) (mode : Mode) (messages : List MessageInfo) 
 
 -- the controller with the same rows, whose body says of no guard where it goes
 abbrev pub told_by_rows : Controller → Controller
-told_by_rows controller = record { body = without_nexts controller.body; rows = controller.rows }
+told_by_rows controller = record { body = bare_body controller.body; rows = controller.rows }
 
 -- the table of these parts
-abbrev pub table_of : Text → Mode → List MessageInfo → List (Option ℕ) → Controller → Controller → Tabled
+abbrev pub table_of : Text → Mode → List MessageInfo → List (Option ℕ) → Controller → Controller
+    → Tabled
 table_of name mode messages replies home remote = record {
   name = name;
   mode = mode;
@@ -136,6 +132,6 @@ table_in protocol mode = record {
   mode = mode;
   messages = protocol.messages;
   replies = replies_of protocol mode;
-  home = record { body = without_nexts protocol.home; rows = home_rows protocol mode };
-  remote = record { body = without_nexts protocol.remote; rows = remote_rows protocol mode };
+  home = record { body = bare_body protocol.home; rows = home_rows protocol mode };
+  remote = record { body = bare_body protocol.remote; rows = remote_rows protocol mode };
 }

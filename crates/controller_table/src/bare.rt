@@ -1,15 +1,15 @@
 //! Bodies that say of no guard where it goes: `next` of each is 0.
 
 ghost use Rattle.std.specs.Prelude.{◌≡◌, map, IfOk};
-ghost use Rattle.controller_table.specs.Bare.{bare_rule, bare_state};
-ghost use Rattle.controller_table.specs.Sound.{told_by_rows, without_nexts};
+ghost use Rattle.proto_model.specs.Guards.{bare_rule, bare_state, bare_body as the_bare_body};
+ghost use Rattle.controller_table.specs.Sound.{told_by_rows};
 
 use crate::controller::Controller;
 use proto_model::{Body, Rule, StateInfo};
 use rv_base::{Items, NoMemory};
 use std::alloc::Global;
 
-/// A copy of the items.
+// A copy of the items.
 fn copied<T: Copy + Drop>(alloc: Global, items: &[T]) -> Result<Items<T>, NoMemory>
     ensures { IfOk result (λ copies. copies ≡ items.now) }
 {
@@ -49,7 +49,7 @@ fn bare_states(alloc: Global, states: &[StateInfo]) -> Result<Items<StateInfo>, 
 }
 
 fn bare_body(alloc: Global, body: Body) -> Result<Body, NoMemory>
-    ensures { IfOk result (λ bare. bare ≡ without_nexts body) }
+    ensures { IfOk result (λ bare. bare ≡ the_bare_body body) }
 {
     let Body {
         vars,

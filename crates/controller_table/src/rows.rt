@@ -1,6 +1,7 @@
 //! What a row of a controller is.
 
-/// A guard of a process: the place of its state, and its number within the state. Both count from 0.
+/// A guard of a process: the place of its state, and its number within the state. Both count from
+/// 0.
 #[derive(Clone, Copy, Debug, PartialEq, Eq, Hash, Drop)]
 pub struct GuardId {
     pub state: u8,
@@ -63,8 +64,8 @@ pub enum Does {
     Two(GuardId, GuardId),
 }
 
-/// One row of a controller: where it stands and what makes it move, what it puts on a link, the guards
-/// that it completes, and where it stands then.
+/// One row of a controller: where it stands and what makes it move, what it puts on a link, the
+/// guards that it completes, and where it stands then.
 #[derive(Clone, Copy, Debug, PartialEq, Eq, Hash, Drop)]
 pub struct Row {
     pub at: Place,

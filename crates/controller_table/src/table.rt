@@ -1,7 +1,8 @@
 //! The table.
 
 ghost use Rattle.std.specs.Prelude.{◌≡◌, IfOk, option_copied};
-ghost use Rattle.controller_table.specs.Sound.{IsSound, MakesTable, protocol_of, protocol_with, table_of};
+ghost use Rattle.controller_table.specs.Sound.{IsSound, MakesTable, protocol_of, protocol_with};
+ghost use Rattle.controller_table.specs.Sound.{table_of};
 ghost use Rattle.controller_table.specs.OneRow.{IsOnlyRow};
 
 use crate::controller::Controller;
@@ -12,9 +13,9 @@ use rv_base::{Items, NoMemory};
 use std::alloc::Global;
 use std::marker::Model;
 
-/// The two controllers of a protocol in a mode. Where a guard leads is told by the rows alone: `next` of
-/// each guard in the bodies is 0. Contracts see the parts of the table, which is sound: its replies and
-/// its rows are those of the protocol that its rows tell, which is proper.
+/// The two controllers of a protocol in a mode. Where a guard leads is told by the rows alone:
+/// `next` of each guard in the bodies is 0. Contracts see the parts of the table, which is sound:
+/// its replies and its rows are those of the protocol that its rows tell, which is proper.
 #[derive(Debug, Drop)]
 pub struct Table {
     name: Name,
@@ -33,9 +34,23 @@ impl Model for Table {
 
     ghost Value = { Tabled };
 
-    ghost view = { λ t. record { name = t.name; mode = t.mode; messages = t.messages; replies = t.replies; home = t.home; remote = t.remote } };
+    ghost view = { λ t. record {
+      name = t.name;
+      mode = t.mode;
+      messages = t.messages;
+      replies = t.replies;
+      home = t.home;
+      remote = t.remote;
+    } };
 
-    ghost invariant = { λ t. IsSound (record { name = t.name; mode = t.mode; messages = t.messages; replies = t.replies; home = t.home; remote = t.remote })
+    ghost invariant = { λ t. IsSound (record {
+      name = t.name;
+      mode = t.mode;
+      messages = t.messages;
+      replies = t.replies;
+      home = t.home;
+      remote = t.remote;
+    })
         × IsIndexOf t.home.rows t.home_index × IsIndexOf t.remote.rows t.remote_index };
 }
 
@@ -52,7 +67,8 @@ impl Table {
     ) -> Result<Table, NoMemory>
         requires { MakesTable name mode messages replies home remote }
         ensures parts { IfOk result (λ t. t ≡ table_of name mode messages replies home remote) }
-        ensures protocol { IfOk result (λ t. protocol_of t ≡ protocol_with name messages home remote) }
+        ensures protocol { IfOk result (λ t. protocol_of t ≡ protocol_with name messages home
+            remote) }
     {
         let home_index = Index::new(alloc, home.rows.as_slice())?;
         let remote_index = Index::new(alloc, remote.rows.as_slice())?;

@@ -6,7 +6,7 @@ ghost use Rattle.controller_table.specs.Rows as rows;
 use controller_table::{Does, GuardId, Place, Puts, Row, Trigger};
 use proto_model::{Body, Rule};
 
-/// The state to which the first rule of the state at this place goes.
+// The state to which the first rule of the state at this place goes.
 fn next_of_first(body: &Body, state: u8) -> u8
     ensures { result ≡ rows.next_of_first body.now state }
 {

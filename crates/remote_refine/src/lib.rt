@@ -3,6 +3,7 @@
 //! - `replies`: the reply of each message.
 //! - `paired_body`: a body beside the messages of its protocol and their replies.
 //! - `both_sides`: the rows of local steps and of outputs, which are alike in both controllers.
+//! - `states`: the rows of all states of a body, in order, for both controllers.
 //! - `remote`: the rows of a remote.
 #![tactic(auto)]
 
@@ -10,8 +11,10 @@ mod both_sides;
 mod paired_body;
 mod remote;
 mod replies;
+mod states;
 
 pub use both_sides::{answered_row, back_row, send_row, tau_row};
 pub use paired_body::PairedBody;
-pub use remote::remote_rows;
+pub use remote::{remote_rows, remote_rows_of};
 pub use replies::all_replies;
+pub use states::{GuardRows, StateRows, push_guards, push_states};

@@ -14,7 +14,7 @@ pub struct PairedBody<'a> {
     pub body: &'a Body,
 }
 
-/// The reply is this message.
+// The reply is this message.
 fn is_message(reply: Option<u8>, message: u8) -> bool
     ensures { result ≡ option_map_or (λ r. r == message) reply false }
 {
@@ -27,7 +27,7 @@ fn is_message(reply: Option<u8>, message: u8) -> bool
 impl PairedBody<'_> {
     /// The reply of the message at this place.
     pub fn reply(&self, message: u8) -> Option<u8>
-        ensures { result ≡ rows.reply self.now.messages.now self.now.replies.now message }
+        ensures { result ≡ rows.reply_at self.now.replies.now message }
     {
         match self.replies.get(message as usize) {
             Some(reply) => *reply,

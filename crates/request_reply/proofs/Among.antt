@@ -1,8 +1,6 @@
 -- The message of each rule of a proper process is one of the protocol's.
-use Rattle.std.proofs.Common.{◌≡◌, ℕ, ◌<◌, List, [], ◌∷◌, length, get_or, IfSome, refl}
+use Rattle.std.proofs.Common.{◌≡◌, ℕ, ◌<◌, List, [], ◌∷◌, length, IfSome, refl}
 use Rattle.std.specs.List.{AllByRecursion}
-use Rattle.std.proofs.lemmas.Option.{slice_get_read}
-use Rattle.proto_model.proofs.Elements.{AllByRecursion-at}
 use Rattle.proto_model.specs.ValueTypes.{message_in, message_out}
 use Rattle.proto_model.specs.Proper.{IsActionInRange, IsProperBody, IsProperState, IsProperRule}
 use Rattle.proto_model.specs.declared.numbered.Side.{Side}
@@ -16,10 +14,6 @@ use Rattle.proto_model.specs.declared.numbered.Body.{Body}
 use Rattle.request_reply.specs.Looks.{IsAmong}
 use Rattle.request_reply.specs.declared.look.Look.{Look}
 use Rattle.request_reply.specs.declared.look.Look.TheVariants.{RemoteOutputs, HomeOutputs, RemoteInputs}
-
--- what holds of each item holds of the one at a place
-pub each_at : {X : Type 0} (P : X → Type 0) (xs : List X) (i : ℕ) (x : X) → AllByRecursion P xs → i < length xs → x ≡ get_or xs i x → P x
-each_at P xs i x each within is = AllByRecursion-at P xs i x each (slice_get_read xs (length xs) i x refl within is)
 
 out_among : (vars count : ℕ) (k : RuleKind) → IsActionInRange vars count k → IfSome (message_out k) (λ m. m < count)
 out_among vars count action.Tau in_range = tt

@@ -1,5 +1,6 @@
 -- What is kept of a message is what the tests over all rules say.
-use Rattle.std.proofs.Common.{◌≡◌, ℕ, ◌==◌, ◌&&◌, ◌||◌, not, ◌∙◌, Bool, true, false, cond, List, [], ◌∷◌, Option, Some, None, refl, sym, ap, arith}
+use Rattle.std.proofs.Common.{◌≡◌, ℕ, ◌==◌, ◌&&◌, ◌||◌, not, ◌∙◌, Bool, true, false, cond, List, []}
+use Rattle.std.proofs.Common.{◌∷◌, Option, Some, None, refl, sym, ap, arith}
 use Rattle.std.specs.List.{list_any}
 use Rattle.std.proofs.Math.Bool.{and-true, and-false}
 use Rattle.std.proofs.lemmas.Bool.Decides.{nat_tests}
@@ -7,7 +8,7 @@ use Rattle.std.proofs.lemmas.Bool.{eqb-true}
 use Rattle.proto_model.specs.Pairs.{each_that, some_and_each}
 use Rattle.proto_model.specs.declared.numbered.Rule.{Rule}
 use Rattle.proto_model.specs.declared.numbered.Body.{Body}
-use Rattle.request_reply.specs.Looks.{reply_at}
+use Rattle.request_reply.specs.Looks.{reply_behind}
 use Rattle.request_reply.specs.Candidates.{after, agreed, is_of, after_rule, after_rules}
 use Rattle.request_reply.specs.declared.look.Look.{Look}
 use Rattle.request_reply.specs.declared.candidates.Candidate.{Candidate}
@@ -22,7 +23,7 @@ is_reply p Never = false
 
 -- the rule leads to the reply p
 abbrev pub leads_to : Look → Body → ℕ → Rule → Bool
-leads_to look body p rule = is_it p (reply_at look body rule)
+leads_to look body p rule = is_it p (reply_behind look body rule)
 
 -- what is kept leaves p, where some later rule is of the message, and each one that is leads to p
 leaves : ℕ → Bool → Bool → Candidate → Bool
@@ -37,7 +38,8 @@ two_replies p q k some each true same = let e : q ≡ k = eqb-true q k same in r
 two_replies p q k some each false other = grind (arith, nat_tests)
 
 one_more : (p : ℕ) (some each b : Bool) (o : Option ℕ) (kept : Candidate)
-    → leaves p some each (cond b (after kept o) kept) ≡ leaves p (b || some) ((not b || is_it p o) && each) kept
+    → leaves p some each (cond b (after kept o) kept)
+    ≡ leaves p (b || some) ((not b || is_it p o) && each) kept
 unfolding leaves
 one_more p some each false o Unseen = refl
 one_more p some each false o (Reply q) = refl
@@ -56,24 +58,29 @@ none_left p Never = refl
 
 left : (look : Look) (body : Body) (m p : ℕ) (kept : Candidate) (rules : List Rule)
     → is_reply p (after_rules look body m kept rules)
-    ≡ leaves p (list_any (is_of look body m) rules) (each_that (is_of look body m) (leads_to look body p) rules) kept
+    ≡ leaves p (list_any (is_of look m) rules)
+    (each_that (is_of look m) (leads_to look body p) rules) kept
 unfolding leaves
 left look body m p kept [] = none_left p kept
 left look body m p kept (rule ∷ rules) =
     left look body m p (after_rule look body m kept rule) rules
-    ∙ one_more p (list_any (is_of look body m) rules) (each_that (is_of look body m) (leads_to look body p) rules)
-    (is_of look body m rule) (reply_at look body rule) kept
+    ∙ one_more p (list_any (is_of look m) rules)
+    (each_that (is_of look m) (leads_to look body p) rules)
+    (is_of look m rule) (reply_behind look body rule) kept
 
 pub is_reply-after_rules : (look : Look) (body : Body) (m p : ℕ) (rules : List Rule)
-    → is_reply p (after_rules look body m Unseen rules) ≡ some_and_each (is_of look body m) (leads_to look body p) rules
+    → is_reply p (after_rules look body m Unseen rules)
+    ≡ some_and_each (is_of look m) (leads_to look body p) rules
 unfolding leaves
 is_reply-after_rules look body m p rules = left look body m p Unseen rules
 
-one_agreed : (p q k : ℕ) (b : Bool) → (q == k) ≡ b → is_reply p (cond b (Reply q) Never) ≡ ((q == p) && (k == p))
+one_agreed : (p q k : ℕ) (b : Bool) → (q == k) ≡ b
+    → is_reply p (cond b (Reply q) Never) ≡ ((q == p) && (k == p))
 one_agreed p q k true same = let e : q ≡ k = eqb-true q k same in rw e (grind (arith, nat_tests))
 one_agreed p q k false other = grind (arith, nat_tests)
 
-pub is_reply-agreed : (p : ℕ) (a b : Candidate) → is_reply p (agreed a b) ≡ (is_reply p a && is_reply p b)
+pub is_reply-agreed : (p : ℕ) (a b : Candidate)
+    → is_reply p (agreed a b) ≡ (is_reply p a && is_reply p b)
 is_reply-agreed p Unseen b = refl
 is_reply-agreed p (Reply q) Unseen = sym (and-false (q == p))
 is_reply-agreed p (Reply q) (Reply k) = one_agreed p q k (q == k) refl
@@ -88,6 +95,8 @@ each_that-same first second third same (rule ∷ rules) =
     ∙ ap (λ b. (not (first rule) || third rule) && b) (each_that-same first second third same rules)
 
 -- the test of each rule may be written otherwise
-pub some_and_each-same : (first second third : Rule → Bool) → ((rule : Rule) → second rule ≡ third rule)
+pub some_and_each-same : (first second third : Rule → Bool)
+    → ((rule : Rule) → second rule ≡ third rule)
     → (rules : List Rule) → some_and_each first second rules ≡ some_and_each first third rules
-some_and_each-same first second third same rules = ap (λ each. list_any first rules && each) (each_that-same first second third same rules)
+some_and_each-same first second third same rules =
+    ap (λ each. list_any first rules && each) (each_that-same first second third same rules)

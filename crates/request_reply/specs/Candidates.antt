@@ -8,7 +8,7 @@ use Rattle.proto_model.specs.declared.numbered.Body.{Body}
 use Rattle.request_reply.specs.declared.look.Look.{Look}
 use Rattle.request_reply.specs.declared.candidates.Candidate.{Candidate}
 use Rattle.request_reply.specs.declared.candidates.Candidate.TheVariants.{Unseen, Reply, Never}
-use Rattle.request_reply.specs.Looks.{message_at, reply_at}
+use Rattle.request_reply.specs.Looks.{message_at, reply_behind}
 
 -- what is left after one more rule of the message, which leads to this reply or to none
 abbrev pub after : Candidate → Option ℕ → Candidate
@@ -32,14 +32,20 @@ only_reply Unseen = None
 only_reply (Reply reply) = Some reply
 only_reply Never = None
 
-module _ (look : Look) (body : Body) where
-  -- the rule is looked at, and its message is this one
-  abbrev pub is_of : ℕ → Rule → Bool
-  is_of m rule = option_map_or (λ k. k == m) (message_at look rule) false
+-- the rule is looked at, and its message is this one
+abbrev pub is_of : Look → ℕ → Rule → Bool
+is_of look m rule = option_map_or (λ k. k == m) (message_at look rule) false
 
+-- what is kept of all messages after one more rule of message m, which leads to this reply or to
+-- none
+abbrev pub noted_at : List Candidate → Option ℕ → ℕ → List Candidate
+noted_at candidates reply m = slice_set candidates m (after (get_or candidates m Unseen) reply)
+
+module _ (look : Look) (body : Body) where
   -- what is kept of message m after one more rule
   abbrev pub after_rule : ℕ → Candidate → Rule → Candidate
-  after_rule m before rule = if is_of m rule then after before (reply_at look body rule) else before
+  after_rule m before rule =
+      if is_of look m rule then after before (reply_behind look body rule) else before
 
   abbrev pub after_rules : ℕ → Candidate → List Rule → Candidate
   after_rules m before [] = before
@@ -49,14 +55,11 @@ module _ (look : Look) (body : Body) where
   abbrev pub candidate : ℕ → Candidate
   candidate m = after_rules m Unseen (all_rules body)
 
-  -- what is kept of all messages after one more rule of message m, which leads to this reply or to none
-  abbrev pub noted_at : List Candidate → Option ℕ → ℕ → List Candidate
-  noted_at candidates reply m = slice_set candidates m (after (get_or candidates m Unseen) reply)
-
-  -- and after one more rule of any message
+  -- what is kept of all messages after one more rule of any message
   abbrev pub noted : List Candidate → Rule → List Candidate
   noted candidates rule =
-      option_map_or (noted_at candidates (reply_at look body rule)) (message_at look rule) candidates
+      option_map_or (noted_at candidates (reply_behind look body rule))
+      (message_at look rule) candidates
 
   abbrev pub noted_all : List Candidate → List Rule → List Candidate
   noted_all candidates [] = candidates

@@ -1,24 +1,14 @@
 -- Which guards a pass looks at, and the reply to which such a guard leads.
-use Rattle.std.specs.Prelude.{ℕ, ◌<◌, if◌then◌else◌, List, [], ◌∷◌, slice_get}
+use Rattle.std.specs.Prelude.{ℕ, ◌<◌, if◌then◌else◌}
 use Rattle.std.specs.Prelude.{Option, Some, None, option_and_then, IfSome}
 use Rattle.std.specs.List.{AllByRecursion}
+use Rattle.proto_model.specs.Guards.{only_next}
 use Rattle.proto_model.specs.ValueTypes.{message_in, message_out}
 use Rattle.proto_model.specs.Pairs.{no_atoms, is_from, leaves_alone, output_var}
 use Rattle.proto_model.specs.declared.numbered.Rule.{Rule}
 use Rattle.proto_model.specs.declared.numbered.Body.{Body}
 use Rattle.request_reply.specs.declared.look.Look.{Look}
 use Rattle.request_reply.specs.declared.look.Look.TheVariants as look
-
--- the one rule, where there is one alone
-abbrev pub only_rule : List Rule → Option Rule
-only_rule [] = None
-only_rule (rule ∷ []) = Some rule
-only_rule (rule ∷ other ∷ rules) = None
-
--- the one rule of the state to which the rule goes
-abbrev pub only_next : Body → Rule → Option Rule
-only_next body rule =
-    option_and_then (λ state. only_rule state.rules) (slice_get body.states rule.next)
 
 -- the message of the rule, where it is an input without a condition
 abbrev pub awaited : Rule → Option ℕ
@@ -28,8 +18,8 @@ awaited rule = if no_atoms rule.conds then message_in rule.kind else None
 abbrev pub awaited_from : ℕ → Rule → Option ℕ
 awaited_from x rule = if is_from x rule.kind then awaited rule else None
 
--- What the state behind an output awaits from the remote to which it goes, which variable x holds then,
--- unless the output assigns another value to x.
+-- What the state behind an output awaits from the remote to which it goes, which variable x holds
+-- then, unless the output assigns another value to x.
 abbrev pub awaited_of_target : Body → Rule → ℕ → Option ℕ
 awaited_of_target home rule x =
     if leaves_alone x rule then option_and_then (awaited_from x) (only_next home rule) else None
@@ -50,11 +40,12 @@ IsAmong count look rule = IfSome (message_at look rule) (λ m. m < count)
 
 -- and so is that of each rule of the process
 abbrev pub AreAmong : ℕ → Look → Body → Type 0
-AreAmong count look body = AllByRecursion (λ state. AllByRecursion (IsAmong count look) state.rules) body.states
+AreAmong count look body =
+    AllByRecursion (λ state. AllByRecursion (IsAmong count look) state.rules) body.states
 
 -- the reply to which a rule of this process leads
-abbrev pub reply_at : Look → Body → Rule → Option ℕ
-reply_at look.RemoteOutputs body rule = option_and_then awaited (only_next body rule)
-reply_at look.HomeOutputs body rule = awaited_from_target body rule
-reply_at look.RemoteInputs body rule =
+abbrev pub reply_behind : Look → Body → Rule → Option ℕ
+reply_behind look.RemoteOutputs body rule = option_and_then awaited (only_next body rule)
+reply_behind look.HomeOutputs body rule = awaited_from_target body rule
+reply_behind look.RemoteInputs body rule =
     option_and_then (λ next. message_out next.kind) (only_next body rule)

@@ -55,7 +55,7 @@ impl Candidate {
     }
 }
 
-/// No guard of any of so many messages was seen.
+// No guard of any of so many messages was seen.
 fn unseen(alloc: Global, count: usize) -> Result<Items<Candidate>, NoMemory>
     ensures { IfOk result (λ candidates. candidates ≡ replicate count Unseen) }
 {
@@ -67,7 +67,7 @@ fn unseen(alloc: Global, count: usize) -> Result<Items<Candidate>, NoMemory>
 }
 
 impl Look {
-    /// Notes one more guard of the process, for its message.
+    // Notes one more guard of the process, for its message.
     fn note_rule(self, body: &Body, candidates: &mut Items<Candidate>, rule: &Rule)
         requires { IsAmong (length candidates.old) self rule.now }
         ensures { candidates.new ≡ spec.noted self body.now candidates.old rule.now }

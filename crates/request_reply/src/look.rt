@@ -1,6 +1,7 @@
 //! What a pass over the guards looks at.
 
 ghost use Rattle.std.specs.Prelude.{◌≡◌, option_map, option_copied};
+ghost use Rattle.proto_model.specs.Guards.{only_next as the_only_next};
 ghost use Rattle.proto_model.specs.Pairs as pairs;
 ghost use Rattle.proto_model.specs.ValueTypes as types;
 ghost use Rattle.request_reply.specs.Looks as spec;
@@ -81,9 +82,9 @@ fn leaves_alone(var: u8, rule: &Rule) -> bool
         .all(|assign| !(assign.var == var))
 }
 
-/// The one guard of the state to which the guard goes, where that state has one alone.
+// The one guard of the state to which the guard goes, where that state has one alone.
 fn only_next<'a>(body: &'a Body, rule: &Rule) -> Option<&'a Rule>
-    ensures { option_copied result ≡ spec.only_next body.now rule.now }
+    ensures { option_copied result ≡ the_only_next body.now rule.now }
 {
     let state = body.states.as_slice().get(rule.next as usize)?;
     match state.rules.as_slice() {
@@ -92,7 +93,7 @@ fn only_next<'a>(body: &'a Body, rule: &Rule) -> Option<&'a Rule>
     }
 }
 
-/// The message of the guard, where it is an input without a condition.
+// The message of the guard, where it is an input without a condition.
 fn awaited(rule: &Rule) -> Option<u8>
     ensures { result ≡ spec.awaited rule.now }
 {
@@ -103,7 +104,7 @@ fn awaited(rule: &Rule) -> Option<u8>
     }
 }
 
-/// The message that the guard awaits, where it awaits it from the remote that the variable holds.
+// The message that the guard awaits, where it awaits it from the remote that the variable holds.
 fn awaited_from(var: u8, rule: &Rule) -> Option<u8>
     ensures { result ≡ spec.awaited_from var rule.now }
 {
@@ -114,7 +115,7 @@ fn awaited_from(var: u8, rule: &Rule) -> Option<u8>
     }
 }
 
-/// The message that the state behind the home's output awaits from the remote to which it goes.
+// The message that the state behind the home's output awaits from the remote to which it goes.
 fn awaited_from_target(home: &Body, rule: &Rule) -> Option<u8>
     ensures { result ≡ spec.awaited_from_target home.now rule.now }
 {
@@ -139,7 +140,7 @@ impl Look {
 
     /// The reply to which the guard of this process leads, if it leads to one.
     pub(crate) fn reply(self, body: &Body, rule: &Rule) -> Option<u8>
-        ensures { result ≡ spec.reply_at self body.now rule.now }
+        ensures { result ≡ spec.reply_behind self body.now rule.now }
     {
         match self {
             Look::RemoteOutputs => awaited(only_next(body, rule)?),

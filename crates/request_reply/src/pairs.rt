@@ -10,18 +10,18 @@ use rv_base::{Items, NoMemory};
 use star_check::Checked;
 use std::alloc::Global;
 
-/// The reply of each message that goes up, and of each that goes down, in file order. A message without
-/// a reply, or one that goes the other way, has none.
+/// The reply of each message that goes up, and of each that goes down, in file order. A message
+/// without a reply, or one that goes the other way, has none.
 #[derive(Debug, Drop)]
 pub struct Pairs {
     pub up: Items<Option<u8>>,
     pub down: Items<Option<u8>>,
 }
 
-/// The message with which each up message is paired, in file order. One without a pair has none, and so
-/// has each down message.
+/// The message with which each up message is paired, in file order. One without a pair has none,
+/// and so has each down message.
 pub fn up_pairs(alloc: Global, checked: &Checked) -> Result<Items<Option<u8>>, NoMemory>
-    ensures { IfOk result (λ pairs. pairs ≡ up_replies checked.now Lean) }
+    ensures { IfOk result (λ pairs. pairs ≡ up_replies checked.now.protocol Lean) }
 {
     let count = checked.messages().len();
     let outputs = Look::RemoteOutputs.candidates(alloc, checked.remote(), count)?;
@@ -33,10 +33,10 @@ pub fn up_pairs(alloc: Global, checked: &Checked) -> Result<Items<Option<u8>>, N
     Ok(replies)
 }
 
-/// The message with which each down message is paired, in file order. One without a pair has none, and
-/// so has each up message.
+/// The message with which each down message is paired, in file order. One without a pair has none,
+/// and so has each up message.
 pub fn down_pairs(alloc: Global, checked: &Checked) -> Result<Items<Option<u8>>, NoMemory>
-    ensures { IfOk result (λ pairs. pairs ≡ down_replies checked.now Lean) }
+    ensures { IfOk result (λ pairs. pairs ≡ down_replies checked.now.protocol Lean) }
 {
     let count = checked.messages().len();
     let outputs = Look::HomeOutputs.candidates(alloc, checked.home(), count)?;
@@ -59,10 +59,10 @@ fn no_pairs(alloc: Global, count: usize) -> Result<Items<Option<u8>>, NoMemory>
     Ok(replies)
 }
 
-/// The reply of each message in this mode: in mode plain none has one, in mode lean each has the one
-/// with which it is paired.
+/// The reply of each message in this mode: in mode plain none has one, in mode lean each has the
+/// one with which it is paired.
 pub fn pairs_in(alloc: Global, checked: &Checked, mode: Mode) -> Result<Pairs, NoMemory>
-    ensures { IfOk result (λ pairs. ArePairs checked.now mode pairs) }
+    ensures { IfOk result (λ pairs. ArePairs checked.now.protocol mode pairs) }
 {
     match mode {
         Mode::Plain => {

@@ -1,3 +1,2 @@
 pub mod AsciiNames
-pub mod OneMore
 pub mod NoFloat

@@ -14,7 +14,7 @@ use rv_base::NoMemory;
 use serde_json::{Value, json};
 use std::alloc::{AllocError, Global};
 
-/// A row: an object of its five texts.
+// A row: an object of its five texts.
 fn row_value(
     alloc: Global,
     messages: &[MessageInfo],
@@ -31,7 +31,7 @@ fn row_value(
     json!(in alloc; {"at": at, "does": does, "on": on, "puts": puts, "to": to})
 }
 
-/// The rows of a controller: an array.
+// The rows of a controller: an array.
 fn rows_value(
     alloc: Global,
     messages: &[MessageInfo],
@@ -46,7 +46,7 @@ fn rows_value(
     Ok(Value::Array(values))
 }
 
-/// The name of a reply, or null.
+// The name of a reply, or null.
 fn reply_value(
     alloc: Global,
     messages: &[MessageInfo],
@@ -60,7 +60,7 @@ fn reply_value(
     }
 }
 
-/// The message at this place: an object.
+// The message at this place: an object.
 fn message_value(
     alloc: Global,
     messages: &[MessageInfo],
@@ -68,7 +68,8 @@ fn message_value(
     message: usize,
     info: &MessageInfo,
 ) -> Result<Value, AllocError>
-    ensures { IfOk result (λ v. view v ≡ json.message_data messages.now replies.now message info.now) }
+    ensures { IfOk result (λ v. view v ≡ json.message_data messages.now replies.now message
+        info.now) }
 {
     let carries = Value::String(carries_text(alloc, info.carries)?);
     let name = name_text(&info.name);
@@ -77,7 +78,7 @@ fn message_value(
     json!(in alloc; {"carries": carries, "name": name, "reply": reply, "up": up})
 }
 
-/// The messages: an array.
+// The messages: an array.
 fn messages_value(
     alloc: Global,
     messages: &[MessageInfo],
@@ -92,7 +93,7 @@ fn messages_value(
     Ok(Value::Array(values))
 }
 
-/// The table: an object.
+// The table: an object.
 fn table_value(alloc: Global, table: &Table) -> Result<Value, AllocError>
     ensures { IfOk result (λ v. view v ≡ json.table_data table.now) }
 {
@@ -104,7 +105,7 @@ fn table_value(alloc: Global, table: &Table) -> Result<Value, AllocError>
     json!(in alloc; {"home": home, "messages": messages, "mode": mode, "name": name, "remote": remote})
 }
 
-/// The whole JSON, with its LF.
+// The whole JSON, with its LF.
 fn whole_json(alloc: Global, table: &Table) -> Result<Vec<u8>, AllocError>
     ensures { IfOk result (λ bytes. bytes.items ≡ json.table_json table.now) }
 {
@@ -113,8 +114,8 @@ fn whole_json(alloc: Global, table: &Table) -> Result<Vec<u8>, AllocError>
     Ok(bytes)
 }
 
-/// Appends the JSON of the table, with its LF. After `NoMemory` the vector is as before followed by a
-/// front of the text.
+/// Appends the JSON of the table, with its LF. After `NoMemory` the vector is as before followed by
+/// a front of the text.
 pub fn table_json(alloc: Global, table: &Table, out: &mut Vec<u8>) -> Result<(), NoMemory>
     ensures { Appends (json.table_json table.now) result out.old.items out.new.items }
 {

@@ -22,7 +22,8 @@ pub(crate) fn state_name(body: &Body, state: u8) -> &str
     }
 }
 
-/// The name of the message at this place. Empty where there is none, which a sound table has nowhere.
+/// The name of the message at this place. Empty where there is none, which a sound table has
+/// nowhere.
 pub(crate) fn message_name(messages: &[MessageInfo], message: u8) -> &str
     ensures { result.now ≡ texts.message_name messages.now message }
 {

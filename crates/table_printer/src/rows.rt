@@ -8,7 +8,7 @@ use controller_table::{Does, GuardId, Place, Puts, Trigger};
 use proto_model::{Body, MessageInfo};
 use std::alloc::{AllocError, Global};
 
-/// The guard: the name of its state, `/` and its number.
+// The guard: the name of its state, `/` and its number.
 fn guard_text(alloc: Global, body: &Body, guard: GuardId) -> Result<String, AllocError>
     ensures { IfOk result (λ t. string_bytes t ≡ texts.guard_text body.now guard) }
 {

@@ -2,6 +2,7 @@
 
 ghost use Rattle.std.specs.Prelude.{◌≡◌, string_bytes, IfOk};
 ghost use Rattle.rv_base.specs.Appended.{Appends};
+ghost use Rattle.controller_table.specs.Rows.{reply_at as the_reply_at};
 ghost use Rattle.table_printer.specs.TableText as texts;
 
 use crate::names::{message_name, name_text};
@@ -21,7 +22,7 @@ pub(crate) fn mode_text(mode: Mode) -> &'static str
     }
 }
 
-/// The way that a message goes.
+// The way that a message goes.
 fn way_text(up: bool) -> &'static str
     ensures { result.now ≡ texts.way_text up }
 {
@@ -40,7 +41,7 @@ pub(crate) fn carries_text(alloc: Global, carries: Carry) -> Result<String, Allo
     }
 }
 
-/// One space and the type, where a message carries a value.
+// One space and the type, where a message carries a value.
 fn type_text(alloc: Global, carries: Carry) -> Result<String, AllocError>
     ensures { IfOk result (λ t. string_bytes t ≡ texts.type_text carries) }
 {
@@ -55,7 +56,7 @@ fn type_text(alloc: Global, carries: Carry) -> Result<String, AllocError>
 
 /// The reply of the message at this place, where it has one.
 pub(crate) fn reply_at(replies: &[Option<u8>], message: usize) -> Option<u8>
-    ensures { result ≡ texts.reply_at replies.now message }
+    ensures { result ≡ the_reply_at replies.now message }
 {
     match replies.get(message) {
         Some(reply) => *reply,
@@ -63,7 +64,7 @@ pub(crate) fn reply_at(replies: &[Option<u8>], message: usize) -> Option<u8>
     }
 }
 
-/// ` reply ` and the name of the reply, where a message has one.
+// ` reply ` and the name of the reply, where a message has one.
 fn reply_text(
     alloc: Global,
     messages: &[MessageInfo],
@@ -80,7 +81,7 @@ fn reply_text(
     }
 }
 
-/// The line of the message at this place.
+// The line of the message at this place.
 fn message_line(
     alloc: Global,
     messages: &[MessageInfo],
@@ -88,7 +89,8 @@ fn message_line(
     message: usize,
     info: &MessageInfo,
 ) -> Result<String, AllocError>
-    ensures { IfOk result (λ t. string_bytes t ≡ texts.message_line messages.now replies.now message info.now) }
+    ensures { IfOk result (λ t. string_bytes t ≡ texts.message_line messages.now replies.now message
+        info.now) }
 {
     let name = name_text(&info.name);
     let way = way_text(info.up);
@@ -97,7 +99,7 @@ fn message_line(
     format!(in alloc; "message {name} {way}{carries}{reply}\n")
 }
 
-/// The lines of the messages.
+// The lines of the messages.
 fn message_lines(
     alloc: Global,
     messages: &[MessageInfo],
@@ -112,7 +114,7 @@ fn message_lines(
     Ok(text)
 }
 
-/// The line of a row.
+// The line of a row.
 fn row_line(
     alloc: Global,
     messages: &[MessageInfo],
@@ -129,7 +131,7 @@ fn row_line(
     format!(in alloc; "  {at} {on}: {puts}, {does}, {to}\n")
 }
 
-/// The lines of a controller's rows.
+// The lines of a controller's rows.
 fn row_lines(
     alloc: Global,
     messages: &[MessageInfo],
@@ -144,7 +146,7 @@ fn row_lines(
     Ok(text)
 }
 
-/// The first line: the name of the protocol and the mode.
+// The first line: the name of the protocol and the mode.
 fn first_line(alloc: Global, name: &Name, mode: Mode) -> Result<String, AllocError>
     ensures { IfOk result (λ t. string_bytes t ≡ texts.first_line name.now mode) }
 {
@@ -153,7 +155,7 @@ fn first_line(alloc: Global, name: &Name, mode: Mode) -> Result<String, AllocErr
     format!(in alloc; "table {name} {mode}\n")
 }
 
-/// The whole text.
+// The whole text.
 fn whole_text(alloc: Global, table: &Table) -> Result<String, AllocError>
     ensures { IfOk result (λ t. string_bytes t ≡ texts.table_text table.now) }
 {
@@ -164,8 +166,8 @@ fn whole_text(alloc: Global, table: &Table) -> Result<String, AllocError>
     format!(in alloc; "{first}{messages}home\n{home}remote\n{remote}")
 }
 
-/// Appends the text of the table. After `NoMemory` the vector is as before followed by a front of the
-/// text.
+/// Appends the text of the table. After `NoMemory` the vector is as before followed by a front of
+/// the text.
 pub fn table_text(alloc: Global, table: &Table, out: &mut Vec<u8>) -> Result<(), NoMemory>
     ensures { Appends (texts.table_text table.now) result out.old.items out.new.items }
 {

@@ -1,6 +1,6 @@
 -- So far the first rules are there, with no next.
 use Rattle.std.proofs.Common.{◌≡◌, map, take}
-use Rattle.controller_table.specs.Bare.{bare_rule}
+use Rattle.proto_model.specs.Guards.{bare_rule}
 use Rattle.controller_table.proofs.bare.bare_rules.Given as goal
 
 abbrev pub invariant-loop-rule : goal.invariant-loop-rule

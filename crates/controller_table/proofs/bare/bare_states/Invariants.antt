@@ -1,6 +1,6 @@
 -- So far the first states are there, with no nexts.
 use Rattle.std.proofs.Common.{◌≡◌, map, take}
-use Rattle.controller_table.specs.Bare.{bare_state}
+use Rattle.proto_model.specs.Guards.{bare_state}
 use Rattle.controller_table.proofs.bare.bare_states.Given as goal
 
 abbrev pub invariant-loop-state : goal.invariant-loop-state

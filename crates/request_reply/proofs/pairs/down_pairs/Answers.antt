@@ -12,17 +12,17 @@ use Rattle.request_reply.proofs.pairs.down_pairs.Goals as goal
 
 pub candidates-requires : goal.candidates-requires
 candidates-requires c =
-    body_among HomeOutputs side.Home c.args.checked.now.messages c.args.checked.now.home c.messages-count.result.now c.home.result.now
+    body_among HomeOutputs side.Home c.args.checked.now.protocol.messages c.args.checked.now.protocol.home c.messages-count.result.now c.home.result.now
     c.home.ensures.proper.home c.messages-count.ensures.value c.home.ensures.value
 
 pub candidates-requires-2 : goal.candidates-requires-2
 candidates-requires-2 c =
-    body_among RemoteInputs side.Remote c.args.checked.now.messages c.args.checked.now.remote c.messages-count.result.now c.remote.result.now
+    body_among RemoteInputs side.Remote c.args.checked.now.protocol.messages c.args.checked.now.protocol.remote c.messages-count.result.now c.remote.result.now
     c.remote.ensures.proper.remote c.messages-count.ensures.value c.remote.ensures.value
 
 pub loop-place-preserved : goal.loop-place-preserved
 loop-place-preserved c =
-    let protocol = c.args.checked.now in
+    let protocol = c.args.checked.now.protocol in
     let outputs : get_or c.as_slice.result.now c.loop-place.place Unseen ≡ candidate HomeOutputs protocol.home c.loop-place.place =
     ap (λ kept. get_or kept c.loop-place.place Unseen) c.as_slice.ensures
     ∙ (c.in_ok-outputs.ensures.each c.loop-place.place c.loop-place-test.true
@@ -32,10 +32,13 @@ loop-place-preserved c =
     ∙ (c.in_ok-inputs.ensures.each c.loop-place.place c.loop-place-test.true
     ∙ ap (λ body. candidate RemoteInputs body c.loop-place.place) c.remote.ensures.value) in
     let both : agreed (get_or c.as_slice.result.now c.loop-place.place Unseen) (get_or c.as_slice-in-loop-place.result.now c.loop-place.place Unseen)
-    ≡ agreed (candidate HomeOutputs protocol.home c.loop-place.place) (candidate RemoteInputs protocol.remote c.loop-place.place) =
-    ap (λ kept. agreed kept (get_or c.as_slice-in-loop-place.result.now c.loop-place.place Unseen)) outputs
+    ≡ agreed (candidate HomeOutputs protocol.home c.loop-place.place)
+    (candidate RemoteInputs protocol.remote c.loop-place.place) =
+    ap
+    (λ kept. agreed kept (get_or c.as_slice-in-loop-place.result.now c.loop-place.place Unseen)) outputs
     ∙ ap (agreed (candidate HomeOutputs protocol.home c.loop-place.place)) inputs in
-    one_more_reply (λ m. cond (goes_down protocol m) (paired_with protocol m) None) c.loop-place.place c.only_reply.result
+    one_more_reply
+    (λ m. cond (goes_down protocol m) (paired_with protocol m) None) c.loop-place.place c.only_reply.result
     c.loop-place.replies c.push.new.self c.in_ok-push.ensures.ok c.loop-place.invariant
     (c.only_reply.ensures ∙ (ap only_reply (c.agreed-left.ensures ∙ both)
     ∙ sym (down_reply protocol c.messages-count.ensures.proper c.loop-place.place)))

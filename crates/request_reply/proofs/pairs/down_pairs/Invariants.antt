@@ -6,4 +6,6 @@ use Rattle.request_reply.proofs.pairs.down_pairs.Given as goal
 
 abbrev pub invariant-loop-place : goal.invariant-loop-place
 invariant-loop-place l =
-    l.replies ≡ map (λ m. cond (goes_down l.checked m) (paired_with l.checked m) None) (range_with_len 0 l.place)
+    l.replies
+    ≡ map (λ m. cond (goes_down l.checked.protocol m) (paired_with l.checked.protocol m) None)
+    (range_with_len 0 l.place)

@@ -6,4 +6,6 @@ use Rattle.request_reply.proofs.pairs.up_pairs.Given as goal
 
 abbrev pub invariant-loop-place : goal.invariant-loop-place
 invariant-loop-place l =
-    l.replies ≡ map (λ q. cond (goes_up l.checked q) (paired_with l.checked q) None) (range_with_len 0 l.place)
+    l.replies
+    ≡ map (λ q. cond (goes_up l.checked.protocol q) (paired_with l.checked.protocol q) None)
+    (range_with_len 0 l.place)

@@ -1,12 +1,12 @@
 -- The value of a message stands behind those before it, and in the end those of all messages are there.
 use Rattle.std.proofs.Common.{◌≡◌, ◌<◌, ◌≤◌, [], ◌∷◌, length, map, ap, ◌∙◌, arith, rules}
 use Rattle.std.proofs.lemmas.List.{take_all, map-append}
+use Rattle.rv_base.specs.Lists.{map_from}
+use Rattle.rv_base.proofs.Lists.{map_from-one_more}
 use Rattle.serde_json.specs.Data.{array}
 use Rattle.serde_json.specs.View.{view, items_of}
 use Rattle.serde_json.specs.declared.value.Value.{Array, the_lemmas}
-use Rattle.controller_table.specs.Sound.{map_from}
 use Rattle.table_printer.specs.TableJson.{message_data}
-use Rattle.table_printer.proofs.OneMore.{map_from-one_more}
 use Rattle.table_printer.proofs.json.messages_value.Goals as goal
 
 pub loop-message-preserved : goal.loop-message-preserved

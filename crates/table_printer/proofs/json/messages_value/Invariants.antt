@@ -1,7 +1,7 @@
 -- So far the values are those of the first messages.
 use Rattle.std.proofs.Common.{◌≡◌, take, map}
+use Rattle.rv_base.specs.Lists.{map_from}
 use Rattle.serde_json.specs.View.{view}
-use Rattle.controller_table.specs.Sound.{map_from}
 use Rattle.table_printer.specs.TableJson.{message_data}
 use Rattle.table_printer.proofs.json.messages_value.Given as goal
 

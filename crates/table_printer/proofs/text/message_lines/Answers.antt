@@ -1,7 +1,7 @@
 -- The line of a message is written behind those before it.
 use Rattle.std.proofs.Common.{◌<◌, length, arith}
+use Rattle.rv_base.proofs.Lists.{flat_from-one_more}
 use Rattle.table_printer.specs.TableText.{message_line}
-use Rattle.table_printer.proofs.OneMore.{flat_from-one_more}
 use Rattle.table_printer.proofs.text.message_lines.Goals as goal
 
 pub loop-message-preserved : goal.loop-message-preserved

@@ -1,6 +1,6 @@
 -- So far the lines of the first messages are written.
 use Rattle.std.proofs.Common.{◌≡◌, take, string_bytes}
-use Rattle.controller_table.specs.Rows.{flat_from}
+use Rattle.rv_base.specs.Lists.{flat_from}
 use Rattle.table_printer.specs.TableText.{message_line}
 use Rattle.table_printer.proofs.text.message_lines.Given as goal
 

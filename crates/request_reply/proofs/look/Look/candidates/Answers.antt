@@ -2,6 +2,7 @@
 use Rattle.std.proofs.Common.{◌≡◌, ◌<◌, ◌≤◌, ◌∙◌, ℕ, length, replicate, get_or, flat_map, take, List, sym, ap}
 use Rattle.std.specs.List.{AllByRecursion}
 use Rattle.std.proofs.lemmas.List.{length-replicate, get_or-replicate, take_all}
+use Rattle.rv_base.proofs.Lists.{AllByRecursion-read}
 use Rattle.proto_model.specs.Pairs.{all_rules}
 use Rattle.proto_model.specs.declared.numbered.Rule.{Rule}
 use Rattle.proto_model.specs.declared.numbered.StateInfo.{StateInfo}
@@ -11,7 +12,6 @@ use Rattle.request_reply.specs.Looks.{IsAmong}
 use Rattle.request_reply.specs.declared.look.Look.{Look}
 use Rattle.request_reply.specs.declared.candidates.Candidate.{Candidate}
 use Rattle.request_reply.specs.declared.candidates.Candidate.TheVariants.{Unseen}
-use Rattle.request_reply.proofs.Among.{each_at}
 use Rattle.request_reply.proofs.Noted.{noted_all_state, length-noted_all, get_or-noted_all}
 use Rattle.request_reply.proofs.look.Look.candidates.Goals as goal
 
@@ -30,7 +30,8 @@ note_rules-requires c =
     c.state-item.is ∙ ap (λ states. get_or states c.loop-state.state-index c.state-item.result) c.as_slice-state-items.ensures in
     let within : c.loop-state.state-index < length c.args.body.now.states = rw c.as_slice-state-items.ensures at c.loop-state-test.true in
     rw (many, c.as_slice.ensures)
-    (each_at (λ state. AllByRecursion (IsAmong c.args.count c.args.self) state.rules) c.args.body.now.states c.loop-state.state-index c.state-item.result
+    (AllByRecursion-read (λ state. AllByRecursion (IsAmong c.args.count c.args.self) state.rules)
+    c.args.body.now.states c.loop-state.state-index c.state-item.result
     c.requires within is)
 
 pub loop-state-preserved : goal.loop-state-preserved
