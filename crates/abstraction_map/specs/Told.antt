@@ -2,14 +2,13 @@
 use Rattle.std.specs.Prelude.{ℕ, Bool, true, false, Option, Some, None, slice_get}
 use Rattle.std.specs.Option.{option_map, option_and_then}
 use Rattle.proto_model.specs.Numbered.{NumberedProtocol}
-use Rattle.proto_model.specs.declared.mode.Mode.{Mode}
 use Rattle.proto_model.specs.declared.rendezvous.Event.{Event}
 use Rattle.proto_model.specs.declared.rendezvous.Event.TheVariants as event
-use Rattle.slot_reserve.specs.Requests.{first_of}
+use Rattle.async_shape.specs.Setting.{Setting}
 use Rattle.async_shape.specs.Config.{Config, count_of, owed_to}
-use Rattle.async_shape.specs.Requests.{taking_guard}
+use Rattle.async_shape.specs.Guards.{Chosen, answering_guard}
+use Rattle.async_shape.specs.Requests.{taking}
 use Rattle.async_shape.specs.Next.{is_enabled}
-use Rattle.async_shape.specs.Guards.{answering_at}
 use Rattle.async_shape.specs.declared.config.HomePlace.{HomePlace}
 use Rattle.async_shape.specs.declared.config.HomePlace.TheVariants.{Idle, Waits}
 use Rattle.async_shape.specs.declared.step.Step.{Step}
@@ -22,28 +21,30 @@ abbrev pub event_or_stutter : Option Event → Told
 event_or_stutter (Some e) = Is e
 event_or_stutter None = Stutter
 
+-- HomeSend(g, j) as the reply that is owed: remote j takes it by the one guard that awaits it. As a
+-- request it is no event yet.
+abbrev pub send_event : ℕ → ℕ → Option ℕ → Option Event
+send_event g j (Some p) = Some (event.Down j g 0)
+send_event g j None = None
+
+-- RemoteAnswer(j) by guard r, where the home waits by guard h: the home's request is taken, and the
+-- event is Down(j, h, r). By the shape, the request in a slot is the one by which the home waits.
+-- Where no guard r takes it, the request is nacked, and there is no event.
+abbrev pub answer_event : ℕ → HomePlace → Option Chosen → Option Event
+answer_event j (Idle state) input = None
+answer_event j (Waits waiting) None = None
+answer_event j (Waits waiting) (Some input) = Some (event.Down j waiting.by.guard input.number)
+
 module _ (protocol : NumberedProtocol) (c : Config) where
   -- HomeTake(j) by guard h: the home takes what remote j gives by its one guard.
   abbrev pub take_event : ℕ → Option Event
-  take_event j = option_map (λ h. event.Up j h 0) (option_and_then (taking_guard (count_of c) protocol.home c.home) (first_of j c.held))
+  take_event j =
+      option_map (λ what. event.Up j what.guard.number 0)
+      (taking (count_of c) protocol.home c.home c.held j)
 
-  -- HomeSend(g, j) as the reply that is owed: remote j takes it by the one guard that awaits it. As a
-  -- request it is no event yet.
-  abbrev pub send_event : ℕ → ℕ → Option ℕ → Option Event
-  send_event g j (Some p) = Some (event.Down j g 0)
-  send_event g j None = None
-
-  -- RemoteAnswer(j) by guard r, where the home waits by h: the home's request is taken. By the shape, the
-  -- request in a slot is the one by which the home waits. Without such a guard the request is nacked, and
-  -- there is no event.
-  abbrev pub answer_event : ℕ → HomePlace → Option ℕ → Option Event
-  answer_event j (Idle state) r = None
-  answer_event j (Waits waiting) None = None
-  answer_event j (Waits waiting) (Some r) = Some (event.Down j waiting.by.guard r)
-
-  -- the number of the guard by which remote j answers
-  abbrev pub answering : ℕ → Option ℕ
-  answering j = option_and_then (λ remote. answering_at protocol.remote remote remote.place) (slice_get c.remotes j)
+  -- the guard by which remote j answers
+  abbrev pub answering : ℕ → Option Chosen
+  answering j = option_and_then (answering_guard protocol.remote) (slice_get c.remotes j)
 
   -- the event behind an enabled step; a step without one is a stutter
   abbrev pub event_behind : Step → Option Event
@@ -63,5 +64,5 @@ module _ (protocol : NumberedProtocol) (c : Config) where
   told_if false s = Refused
 
 -- what is told of a step in this configuration
-abbrev pub told : NumberedProtocol → Mode → ℕ → Config → Step → Told
-told protocol mode k c s = told_if protocol c (is_enabled protocol mode k c s) s
+abbrev pub told : Setting → Config → Step → Told
+told setting c s = told_if setting.protocol c (is_enabled setting c s) s

@@ -3,7 +3,7 @@
 use Rattle.std.specs.Prelude.{[], ◌∷◌}
 use Rattle.proto_model.specs.declared.numbered.Value.TheVariants as value
 use Rattle.proto_model.specs.declared.rendezvous.RvConfig.{RvConfig}
-use Rattle.async_shape.specs.Guards.{part}
+use Rattle.proto_model.specs.Guards.{part}
 
 -- home I2 o=#0 j=#1 d=0
 -- remote 0 D d=0

@@ -3,7 +3,7 @@
 use Rattle.std.specs.Prelude.{[], ◌∷◌}
 use Rattle.proto_model.specs.declared.numbered.Value.TheVariants as value
 use Rattle.proto_model.specs.declared.rendezvous.RvConfig.{RvConfig}
-use Rattle.async_shape.specs.Guards.{part}
+use Rattle.proto_model.specs.Guards.{part}
 
 -- home U j=#2 o=none v=none s={0,1,2} d=0
 -- remote 0 S d=0

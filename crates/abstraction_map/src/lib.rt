@@ -1,4 +1,5 @@
-//! The abstraction: what an asynchronous configuration and a step of it mean in the rendezvous meaning.
+//! The abstraction: what an asynchronous configuration and a step of it mean in the rendezvous
+//! meaning.
 //!
 //! - `told`: what is told of a step.
 //! - `worked_told`: what is told of the steps of worked runs.

@@ -1,12 +1,12 @@
--- A configuration of the asynchronous machine: where the home and the remotes stand, what the home holds
--- and owes, and what is under way on the links.
+-- A configuration of the asynchronous machine: where the home and the remotes stand, what the home
+-- holds and owes, and what is under way on the links.
 use Rattle.std.specs.Prelude.{ℕ, List, [], length, replicate, Option, None, slice_get}
 use Rattle.std.specs.Option.{option_and_then}
 use Rattle.proto_model.specs.Numbered.{NumberedProtocol}
 use Rattle.proto_model.specs.Values.{first_values}
 use Rattle.controller_table.specs.declared.rows.Place.TheVariants.{Comm}
 use Rattle.slot_reserve.specs.declared.held.Held.{Held}
-use Rattle.ordered_links.specs.Lists.{Two, no_packets}
+use Rattle.ordered_links.specs.Lists.{LinkPair, no_packets}
 use Rattle.async_shape.specs.declared.config.HomeState.{HomeState}
 use Rattle.async_shape.specs.declared.config.HomePlace.TheVariants.{Idle}
 use Rattle.async_shape.specs.declared.config.RemoteState.{RemoteState}
@@ -17,7 +17,7 @@ pub record Config : Type 0 where
   pub held : List Held
   pub remotes : List RemoteState
   -- the up link and the down link of each remote
-  pub links : List Two
+  pub links : List LinkPair
 
 -- the message that the home owes to remote j
 abbrev pub owed_to : HomeState → ℕ → Option ℕ
@@ -30,8 +30,16 @@ count_of c = length c.remotes
 -- The start with n remotes: start states, first values, and nothing else.
 abbrev pub start : NumberedProtocol → ℕ → Config
 start protocol n = record {
-  home = record { place = Idle protocol.home.start; vars = first_values protocol.home.vars; owed = replicate n None };
+  home = record {
+    place = Idle protocol.home.start;
+    vars = first_values protocol.home.vars;
+    owed = replicate n None;
+  };
   held = [];
-  remotes = replicate n (record { place = Comm protocol.remote.start; vars = first_values protocol.remote.vars; slot = None });
+  remotes = replicate n (record {
+    place = Comm protocol.remote.start;
+    vars = first_values protocol.remote.vars;
+    slot = None;
+  });
   links = replicate n no_packets;
 }

@@ -1,7 +1,11 @@
+pub mod Setting
 pub mod Config
 pub mod Guards
 pub mod Requests
 pub mod Outcome
+pub mod HomeSteps
+pub mod RemoteSteps
+pub mod Site
 pub mod Next
 pub mod Run
 pub mod Fired

@@ -1,12 +1,14 @@
--- The phases of a remote: the ways in which something, or nothing, is under way between it and the home.
-use Rattle.std.specs.Prelude.{◌≡◌, ℕ, ◌<◌, Bool, true, false, ◌==◌, List, [], ◌∷◌, length, Option, Some, None, is_none}
+-- The phases of a remote: the ways in which something, or nothing, is under way between it and the
+-- home.
+use Rattle.std.specs.Prelude.{◌≡◌, ℕ, ◌<◌, Bool, true, false, ◌==◌, List, [], ◌∷◌, length}
+use Rattle.std.specs.Prelude.{Option, Some, None, is_none}
 use Rattle.std.specs.Option.{option_and_then}
 use Rattle.std.specs.List.{AllByRecursion}
 use Rattle.proto_model.specs.Numbered.{NumberedProtocol}
 use Rattle.proto_model.specs.Proper.{is_output_kind}
+use Rattle.proto_model.specs.Guards.{guards_of}
 use Rattle.proto_model.specs.ValueTypes.{AreOfKinds, IsCarriedBy, message_out}
-use Rattle.proto_model.specs.Pairs.{goes_down, reply_of}
-use Rattle.proto_model.specs.declared.mode.Mode.{Mode}
+use Rattle.proto_model.specs.Pairs.{goes_down}
 use Rattle.proto_model.specs.declared.numbered.Value.{Value}
 use Rattle.proto_model.specs.declared.numbered.Rule.{Rule}
 use Rattle.controller_table.specs.declared.rows.GuardId.{GuardId}
@@ -14,13 +16,15 @@ use Rattle.controller_table.specs.declared.rows.Place.{Place}
 use Rattle.controller_table.specs.declared.rows.Place.TheVariants.{Comm, Trans, Due}
 use Rattle.ordered_links.specs.declared.packet.Packet.{Packet}
 use Rattle.ordered_links.specs.declared.packet.Packet.TheVariants as packet
-use Rattle.async_shape.specs.Guards.{guards_of, guard_at, request_by}
+use Rattle.async_shape.specs.Setting.{Setting, reply_to}
+use Rattle.async_shape.specs.Guards.{guard_by, request_by}
 use Rattle.async_shape.specs.View.{View}
 use Rattle.async_shape.specs.declared.config.RemoteState.{RemoteState}
 use Rattle.async_shape.specs.declared.config.Request.{Request}
 
--- R is the request that the home waits for the remote to answer; Q is the request of the guard by which the
--- remote waits. An old request is some request of the home, which is dropped when it arrives; it may be missing.
+-- R is the request that the home waits for the remote to answer; Q is the request of the guard by
+-- which the remote waits. An old request is some request of the home, which is dropped when it
+-- arrives; it may be missing.
 pub data Phase : Type 0 where
   -- the remote is idle, and nothing is under way
   Resting : Phase
@@ -42,10 +46,12 @@ pub data Phase : Type 0 where
   AnswerThenRequestGo : (q r : Request) (answer : Packet) → Phase
   -- the remote waits, and the home holds Q; an old request may come down
   RequestIsHeld : (q : Request) (old : Option Request) → Phase
-  -- the remote waits, and behind an old request the answer to Q comes down, and then R where the home waits
-  -- on the remote
-  AnswerComes : (q : Request) (old : Option Request) (answer : Packet) (awaited : Option Request) → Phase
-  -- the remote waits, and the home owes it this message, the reply to Q; an old request may come down
+  -- the remote waits, and behind an old request the answer to Q comes down, and then R where the
+  -- home waits on the remote
+  AnswerComes :
+      (q : Request) (old : Option Request) (answer : Packet) (awaited : Option Request) → Phase
+  -- the remote waits, and the home owes it this message, the reply to Q; an old request may come
+  -- down
   ReplyIsOwed : (q : Request) (old : Option Request) (p : ℕ) → Phase
 
 -- ---- what is under way
@@ -64,7 +70,8 @@ down_list None answer (Some r) = answer ∷ as_packet r ∷ []
 down_list (Some old) answer None = as_packet old ∷ answer ∷ []
 down_list (Some old) answer (Some r) = as_packet old ∷ answer ∷ as_packet r ∷ []
 
--- what a phase says of what is under way; of the remote's place, of answers and of old requests it speaks below
+-- what a phase says of what is under way; of the remote's place, of answers and of old requests it
+-- speaks below
 pub record Signs : Type 0 where
   pub awaited : Option Request
   pub up : List Packet
@@ -75,21 +82,22 @@ pub record Signs : Type 0 where
 
 -- nothing is in the slot, held or owed, unless a phase says so
 abbrev pub on_links : Option Request → List Packet → List Packet → Signs
-on_links awaited up down = record { awaited = awaited; up = up; down = down; slot = None; held = None; owed = None }
+on_links awaited up down =
+    record { awaited = awaited; up = up; down = down; slot = None; held = None; owed = None }
 
 abbrev pub signs_of : Phase → Signs
 signs_of Resting = on_links None [] []
 signs_of (RequestComes r) = on_links (Some r) [] (as_packet r ∷ [])
-signs_of (RequestInSlot r) = record { awaited = Some r; up = []; down = []; slot = Some r; held = None; owed = None }
+signs_of (RequestInSlot r) = record (on_links (Some r) [] []) { slot = Some r }
 signs_of (AnswerGoes r answer) = on_links (Some r) (answer ∷ []) []
 signs_of (ReplyIsDue r) = on_links (Some r) [] []
 signs_of (RequestGoes q) = on_links None (as_packet q ∷ []) []
 signs_of (RequestsCross q r) = on_links (Some r) (as_packet q ∷ []) (as_packet r ∷ [])
 signs_of (RequestCrossed q r) = on_links (Some r) (as_packet q ∷ []) []
 signs_of (AnswerThenRequestGo q r answer) = on_links (Some r) (answer ∷ as_packet q ∷ []) []
-signs_of (RequestIsHeld q old) = record { awaited = None; up = []; down = packets_of old; slot = None; held = Some q; owed = None }
+signs_of (RequestIsHeld q old) = record (on_links None [] (packets_of old)) { held = Some q }
 signs_of (AnswerComes q old answer awaited) = on_links awaited [] (down_list old answer awaited)
-signs_of (ReplyIsOwed q old p) = record { awaited = None; up = []; down = packets_of old; slot = None; held = None; owed = Some p }
+signs_of (ReplyIsOwed q old p) = record (on_links None [] (packets_of old)) { owed = Some p }
 
 -- the view has these signs
 pub record Has (v : View) (signs : Signs) : Type 0 where
@@ -112,8 +120,8 @@ abbrev pub is_reply : ℕ → Option ℕ → Bool
 is_reply p None = false
 is_reply p (Some r) = r == p
 
--- The packet answers a request whose message has this reply, or none: a nack; an ack, where there is no
--- reply; the reply, where there is one.
+-- The packet answers a request whose message has this reply, or none: a nack; an ack, where there
+-- is no reply; the reply, where there is one.
 abbrev pub is_answer : Option ℕ → Packet → Bool
 is_answer reply (packet.Request m v) = false
 is_answer reply packet.Ack = is_none reply
@@ -139,19 +147,54 @@ module _ (protocol : NumberedProtocol) where
   abbrev pub due_at : Place → Option ℕ
   due_at (Comm state) = None
   due_at (Trans g) = None
-  due_at (Due g) = option_and_then (λ rule. message_out rule.kind) (guard_at protocol.remote g)
+  due_at (Due g) = option_and_then (λ rule. message_out rule.kind) (guard_by protocol.remote g)
 
   -- an old request is one of a down message
   abbrev pub IsOld : Option Request → Type 0
   IsOld None = Unit {0}
   IsOld (Some r) = goes_down protocol r.message ≡ true
 
-  -- ---- ranges and types of one remote
+module _ (setting : Setting) where
+  -- the packet answers the request
+  abbrev pub IsAnswerTo : Request → Packet → Type 0
+  IsAnswerTo r answer = is_answer (reply_to setting r.message) answer ≡ true
 
+  -- what a phase says of the remote's place and variables, and of answers and old requests
+  abbrev pub Fits : Phase → RemoteState → Type 0
+  Fits Resting remote = IsIdle remote
+  Fits (RequestComes r) remote = IsIdle remote
+  Fits (RequestInSlot r) remote = IsIdle remote
+  Fits (AnswerGoes r answer) remote = IsIdle remote × IsAnswerTo r answer
+  Fits (ReplyIsDue r) remote =
+      (p : ℕ) × (due_at setting.protocol remote.place ≡ Some p)
+      × (reply_to setting r.message ≡ Some p)
+  Fits (RequestGoes q) remote = WaitsBy setting.protocol q remote
+  Fits (RequestsCross q r) remote = WaitsBy setting.protocol q remote
+  Fits (RequestCrossed q r) remote = WaitsBy setting.protocol q remote
+  Fits (AnswerThenRequestGo q r answer) remote =
+      WaitsBy setting.protocol q remote × IsAnswerTo r answer
+  Fits (RequestIsHeld q old) remote =
+      WaitsBy setting.protocol q remote × IsOld setting.protocol old
+  Fits (AnswerComes q old answer awaited) remote =
+      WaitsBy setting.protocol q remote × IsOld setting.protocol old × IsAnswerTo q answer
+  Fits (ReplyIsOwed q old p) remote =
+      WaitsBy setting.protocol q remote × IsOld setting.protocol old
+      × (reply_to setting q.message ≡ Some p)
+
+  -- a phase whose signs the view has and which fits the remote
+  pub record IsInPhase (v : View) : Type 0 where
+    pub phase : Phase
+    pub has : Has v (signs_of phase)
+    pub fits : Fits phase v.remote
+
+-- ---- ranges and types of one remote
+
+module _ (protocol : NumberedProtocol) where
   -- the guard is the one guard of an active state
   abbrev pub IsActiveGuard : GuardId → Type 0
   IsActiveGuard g =
-      (rule : Rule) × (guards_of protocol.remote g.state ≡ rule ∷ []) × (g.guard ≡ 0) × (is_output_kind rule.kind ≡ true)
+      (rule : Rule) × (guards_of protocol.remote g.state ≡ rule ∷ [])
+      × (g.guard ≡ 0) × (is_output_kind rule.kind ≡ true)
 
   -- a place in range; a transient or due one names an output, which is the only guard of its state
   abbrev pub IsRemotePlace : Place → Type 0
@@ -174,34 +217,15 @@ module _ (protocol : NumberedProtocol) where
   IsTypedPacket packet.Nack = Unit {0}
   IsTypedPacket (packet.Reply p v) = IsTypedMessage p v
 
-module _ (protocol : NumberedProtocol) (mode : Mode) where
-  -- the packet answers the request
-  abbrev pub IsAnswerTo : Request → Packet → Type 0
-  IsAnswerTo r answer = is_answer (reply_of protocol mode r.message) answer ≡ true
-
-  -- what a phase says of the remote's place and variables, and of answers and old requests
-  abbrev pub Fits : Phase → RemoteState → Type 0
-  Fits Resting remote = IsIdle remote
-  Fits (RequestComes r) remote = IsIdle remote
-  Fits (RequestInSlot r) remote = IsIdle remote
-  Fits (AnswerGoes r answer) remote = IsIdle remote × IsAnswerTo r answer
-  Fits (ReplyIsDue r) remote = (p : ℕ) × (due_at protocol remote.place ≡ Some p) × (reply_of protocol mode r.message ≡ Some p)
-  Fits (RequestGoes q) remote = WaitsBy protocol q remote
-  Fits (RequestsCross q r) remote = WaitsBy protocol q remote
-  Fits (RequestCrossed q r) remote = WaitsBy protocol q remote
-  Fits (AnswerThenRequestGo q r answer) remote = WaitsBy protocol q remote × IsAnswerTo r answer
-  Fits (RequestIsHeld q old) remote = WaitsBy protocol q remote × IsOld protocol old
-  Fits (AnswerComes q old answer awaited) remote = WaitsBy protocol q remote × IsOld protocol old × IsAnswerTo q answer
-  Fits (ReplyIsOwed q old p) remote = WaitsBy protocol q remote × IsOld protocol old × (reply_of protocol mode q.message ≡ Some p)
-
-  -- The case of a remote: a phase whose signs the view has and which fits the remote; a place in range; and
-  -- each variable, and each value in the slot and on the links, of its type.
-  pub record Case (v : View) : Type 0 where
-    pub phase : Phase
-    pub has : Has v (signs_of phase)
-    pub fits : Fits phase v.remote
-    pub place : IsRemotePlace protocol v.remote.place
+  -- a place in range; and each variable, and each value in the slot and on the links, of its type
+  pub record IsTypedView (v : View) : Type 0 where
+    pub place : IsRemotePlace v.remote.place
     pub vars : AreOfKinds protocol.remote.vars v.remote.vars
-    pub slot : IsTypedSlot protocol v.remote.slot
-    pub up : AllByRecursion (IsTypedPacket protocol) v.up
-    pub down : AllByRecursion (IsTypedPacket protocol) v.down
+    pub slot : IsTypedSlot v.remote.slot
+    pub up : AllByRecursion IsTypedPacket v.up
+    pub down : AllByRecursion IsTypedPacket v.down
+
+-- the case of a remote, by its view
+pub record Case (setting : Setting) (v : View) : Type 0 where
+  pub in_phase : IsInPhase setting v
+  pub typed : IsTypedView setting.protocol v

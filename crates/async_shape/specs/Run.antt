@@ -1,15 +1,14 @@
 -- A run: the configurations that a list of steps goes through.
-use Rattle.std.specs.Prelude.{ℕ, List, [], ◌∷◌, unwrap_or}
-use Rattle.proto_model.specs.Numbered.{NumberedProtocol}
-use Rattle.proto_model.specs.declared.mode.Mode.{Mode}
+use Rattle.std.specs.Prelude.{List, [], ◌∷◌, unwrap_or}
+use Rattle.async_shape.specs.Setting.{Setting}
 use Rattle.async_shape.specs.Config.{Config}
 use Rattle.async_shape.specs.Next.{next}
 use Rattle.async_shape.specs.declared.step.Step.{Step}
 
-module _ (protocol : NumberedProtocol) (mode : Mode) (k : ℕ) where
+module _ (setting : Setting) where
   -- the configuration after a step; a step that is not enabled changes nothing
   abbrev pub after_step : Config → Step → Config
-  after_step c s = unwrap_or (next protocol mode k c s) c
+  after_step c s = unwrap_or (next setting c s) c
 
   -- the configurations of a run: the first one, and the one after each step
   abbrev pub run : Config → List Step → List Config

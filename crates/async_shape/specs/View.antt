@@ -5,7 +5,7 @@ use Rattle.proto_model.specs.Numbered.{NumberedProtocol}
 use Rattle.controller_table.specs.declared.rows.Place.TheVariants.{Comm}
 use Rattle.slot_reserve.specs.Requests.{first_of}
 use Rattle.slot_reserve.specs.declared.held.Held.{Held}
-use Rattle.ordered_links.specs.Lists.{two_at}
+use Rattle.ordered_links.specs.Lists.{links_at}
 use Rattle.ordered_links.specs.declared.packet.Packet.{Packet}
 use Rattle.async_shape.specs.Guards.{request_by}
 use Rattle.async_shape.specs.Config.{Config, owed_to}
@@ -26,12 +26,14 @@ pub record View : Type 0 where
   -- the message that the home owes to it
   pub owed : Option ℕ
 
--- The request that the home waits for remote j to answer: that of the guard by which it waits. The shape
--- says that this guard is an output.
+-- The request that the home waits for remote j to answer: that of the guard by which it waits. The
+-- shape says that this guard is an output.
 abbrev pub awaited_at : NumberedProtocol → HomeState → HomePlace → ℕ → Option Request
 awaited_at protocol home (Idle state) j = None
 awaited_at protocol home (Waits waiting) j =
-    if waiting.on == j then request_by protocol.messages protocol.home home.vars waiting.by else None
+    if waiting.on == j
+    then request_by protocol.messages protocol.home home.vars waiting.by
+    else None
 
 abbrev pub held_request : Held → Request
 held_request held = record { message = held.message; value = held.value }
@@ -45,8 +47,8 @@ abbrev pub view_at : NumberedProtocol → Config → ℕ → View
 view_at protocol c j = record {
   remote = slice_index_or c.remotes j nobody;
   awaited = awaited_at protocol c.home c.home.place j;
-  up = (two_at c.links j).up;
-  down = (two_at c.links j).down;
+  up = (links_at c.links j).up;
+  down = (links_at c.links j).down;
   held = option_map held_request (first_of j c.held);
   owed = owed_to c.home j;
 }

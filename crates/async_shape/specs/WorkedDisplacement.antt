@@ -163,7 +163,10 @@ displacement_6 = record {
     vars = value.Nowhere ∷ [];
     owed = None ∷ None ∷ None ∷ [];
   };
-  held = record { from = 0; message = 0; value = value.Unit } ∷ record { from = 1; message = 0; value = value.Unit } ∷ [];
+  held =
+      record { from = 0; message = 0; value = value.Unit } ∷
+      record { from = 1; message = 0; value = value.Unit } ∷
+      [];
   remotes =
       record { place = Trans (guard_id 1 0); vars = []; slot = None } ∷
       record { place = Trans (guard_id 1 0); vars = []; slot = None } ∷
@@ -187,7 +190,10 @@ displacement_7 = record {
     vars = value.Nowhere ∷ [];
     owed = None ∷ None ∷ None ∷ [];
   };
-  held = record { from = 0; message = 0; value = value.Unit } ∷ record { from = 1; message = 0; value = value.Unit } ∷ [];
+  held =
+      record { from = 0; message = 0; value = value.Unit } ∷
+      record { from = 1; message = 0; value = value.Unit } ∷
+      [];
   remotes =
       record { place = Trans (guard_id 1 0); vars = []; slot = None } ∷
       record { place = Trans (guard_id 1 0); vars = []; slot = None } ∷
@@ -211,7 +217,10 @@ displacement_8 = record {
     vars = value.Nowhere ∷ [];
     owed = None ∷ None ∷ None ∷ [];
   };
-  held = record { from = 0; message = 0; value = value.Unit } ∷ record { from = 1; message = 0; value = value.Unit } ∷ [];
+  held =
+      record { from = 0; message = 0; value = value.Unit } ∷
+      record { from = 1; message = 0; value = value.Unit } ∷
+      [];
   remotes =
       record { place = Trans (guard_id 1 0); vars = []; slot = None } ∷
       record { place = Trans (guard_id 1 0); vars = []; slot = None } ∷
@@ -235,7 +244,10 @@ displacement_9 = record {
     vars = value.Nowhere ∷ [];
     owed = None ∷ None ∷ None ∷ [];
   };
-  held = record { from = 0; message = 0; value = value.Unit } ∷ record { from = 1; message = 0; value = value.Unit } ∷ [];
+  held =
+      record { from = 0; message = 0; value = value.Unit } ∷
+      record { from = 1; message = 0; value = value.Unit } ∷
+      [];
   remotes =
       record { place = Trans (guard_id 1 0); vars = []; slot = None } ∷
       record { place = Trans (guard_id 1 0); vars = []; slot = None } ∷
@@ -259,7 +271,10 @@ displacement_10 = record {
     vars = value.Nowhere ∷ [];
     owed = None ∷ None ∷ None ∷ [];
   };
-  held = record { from = 0; message = 0; value = value.Unit } ∷ record { from = 2; message = 1; value = value.Unit } ∷ [];
+  held =
+      record { from = 0; message = 0; value = value.Unit } ∷
+      record { from = 2; message = 1; value = value.Unit } ∷
+      [];
   remotes =
       record { place = Trans (guard_id 1 0); vars = []; slot = None } ∷
       record { place = Trans (guard_id 1 0); vars = []; slot = None } ∷

@@ -19,7 +19,11 @@ full_slot_12 = record {
   };
   held = [];
   remotes =
-      record { place = Comm 3; vars = value.Int 0 ∷ []; slot = Some (record { message = 3; value = value.Unit }) } ∷
+      record {
+        place = Comm 3;
+        vars = value.Int 0 ∷ [];
+        slot = Some (record { message = 3; value = value.Unit });
+      } ∷
       record { place = Trans (guard_id 1 0); vars = value.Int 0 ∷ []; slot = None } ∷
       [];
   links =
@@ -40,7 +44,11 @@ full_slot_13 = record {
   };
   held = [];
   remotes =
-      record { place = Comm 4; vars = value.Int 0 ∷ []; slot = Some (record { message = 3; value = value.Unit }) } ∷
+      record {
+        place = Comm 4;
+        vars = value.Int 0 ∷ [];
+        slot = Some (record { message = 3; value = value.Unit });
+      } ∷
       record { place = Trans (guard_id 1 0); vars = value.Int 0 ∷ []; slot = None } ∷
       [];
   links =

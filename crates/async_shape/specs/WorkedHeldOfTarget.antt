@@ -146,7 +146,11 @@ held_of_target_7 = record {
   };
   held = [];
   remotes =
-      record { place = Comm 0; vars = []; slot = Some (record { message = 0; value = value.Unit }) } ∷
+      record {
+        place = Comm 0;
+        vars = [];
+        slot = Some (record { message = 0; value = value.Unit });
+      } ∷
       record { place = Comm 0; vars = []; slot = None } ∷
       [];
   links =

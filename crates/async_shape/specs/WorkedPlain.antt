@@ -145,7 +145,11 @@ plain_7 = record {
   };
   held = [];
   remotes =
-      record { place = Comm 2; vars = value.Int 0 ∷ []; slot = Some (record { message = 1; value = value.Int 0 }) } ∷
+      record {
+        place = Comm 2;
+        vars = value.Int 0 ∷ [];
+        slot = Some (record { message = 1; value = value.Int 0 });
+      } ∷
       [];
   links =
       no_packets ∷

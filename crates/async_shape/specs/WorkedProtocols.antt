@@ -2,6 +2,7 @@
 use Rattle.std.specs.Prelude.{ℕ, Bool, true, false, List, [], ◌∷◌, Some, None, codes}
 use Rattle.proto_model.specs.Tokens.{Text}
 use Rattle.proto_model.specs.Numbered.{NumberedProtocol}
+use Rattle.proto_model.specs.declared.mode.Mode.TheVariants.{Lean, Plain}
 use Rattle.proto_model.specs.declared.protocol.Carry.{Carry}
 use Rattle.proto_model.specs.declared.protocol.Carry.TheVariants as carry
 use Rattle.proto_model.specs.declared.protocol.VarKind.{VarKind}
@@ -21,6 +22,14 @@ use Rattle.proto_model.specs.declared.numbered.Rule.{Rule}
 use Rattle.proto_model.specs.declared.numbered.StateInfo.{StateInfo}
 use Rattle.proto_model.specs.declared.numbered.VarInfo.{VarInfo}
 use Rattle.proto_model.specs.declared.numbered.MessageInfo.{MessageInfo}
+use Rattle.async_shape.specs.Setting.{Setting}
+
+-- the protocol in this mode, with so many slots
+abbrev pub lean : NumberedProtocol → ℕ → Setting
+lean protocol slots = record { protocol = protocol; mode = Lean; slots = slots }
+
+abbrev pub plain : NumberedProtocol → ℕ → Setting
+plain protocol slots = record { protocol = protocol; mode = Plain; slots = slots }
 
 -- a message
 abbrev pub message : Text → Bool → Carry → MessageInfo
@@ -39,7 +48,8 @@ gets var value = record { var = var; value = value }
 
 -- a guard with conditions, assignments and next state
 abbrev pub goes_when : RuleKind → List RuleAtom → List RuleAssign → ℕ → Rule
-goes_when kind conds assigns next = record { kind = kind; conds = conds; assigns = assigns; next = next }
+goes_when kind conds assigns next =
+    record { kind = kind; conds = conds; assigns = assigns; next = next }
 
 -- a guard without conditions
 abbrev pub goes : RuleKind → List RuleAssign → ℕ → Rule
@@ -72,7 +82,8 @@ migratory = record {
         -- 1
         state (codes "G") (
         -- to j ! gr(d) do o = j goto E;
-        goes (action.Output (partner.Named 1) 1 (Some (expr.One (term.Var 2)))) (gets 0 (expr.One (term.Var 1)) ∷ []) 2 ∷
+        goes (action.Output (partner.Named 1) 1 (Some (expr.One (term.Var 2))))
+        (gets 0 (expr.One (term.Var 1)) ∷ []) 2 ∷
         []) ∷
         -- 2
         state (codes "E") (
@@ -307,31 +318,42 @@ invalidate = record {
         -- from any j ? rx goto INV;
         goes (action.Input (partner.Any 0) 1 None) [] 2 ∷
         -- from any v in s ? ev do s = s - v goto U;
-        goes (action.Input (partner.Member 2 3) 4 None) (gets 3 (expr.Minus (term.Var 3) (term.Var 2)) ∷ []) 0 ∷
+        goes (action.Input (partner.Member 2 3) 4 None)
+        (gets 3 (expr.Minus (term.Var 3) (term.Var 2)) ∷ []) 0 ∷
         []) ∷
         -- 1
         state (codes "GS") (
         -- to j ! gs(d) do s = s + j goto U;
-        goes (action.Output (partner.Named 0) 2 (Some (expr.One (term.Var 4)))) (gets 3 (expr.Plus (term.Var 3) (term.Var 0)) ∷ []) 0 ∷
+        goes (action.Output (partner.Named 0) 2 (Some (expr.One (term.Var 4))))
+        (gets 3 (expr.Plus (term.Var 3) (term.Var 0)) ∷ []) 0 ∷
         []) ∷
         -- 2
         state (codes "INV") (
         -- to any v in s ! inv goto IA;
         goes (action.Output (partner.Member 2 3) 6 None) [] 3 ∷
         -- from any v in s ? ev do s = s - v goto INV;
-        goes (action.Input (partner.Member 2 3) 4 None) (gets 3 (expr.Minus (term.Var 3) (term.Var 2)) ∷ []) 2 ∷
+        goes (action.Input (partner.Member 2 3) 4 None)
+        (gets 3 (expr.Minus (term.Var 3) (term.Var 2)) ∷ []) 2 ∷
         -- tau when s eq empty goto GX;
-        goes_when action.Tau (record { left = (expr.One (term.Var 3)); rel = rel.Eq; right = (expr.One term.Empty) } ∷ []) [] 4 ∷
+        goes_when action.Tau
+        (record {
+          left = expr.One (term.Var 3);
+          rel = rel.Eq;
+          right = expr.One term.Empty;
+        } ∷ [])
+        [] 4 ∷
         []) ∷
         -- 3
         state (codes "IA") (
         -- from v ? ia do s = s - v goto INV;
-        goes (action.Input (partner.Named 2) 7 None) (gets 3 (expr.Minus (term.Var 3) (term.Var 2)) ∷ []) 2 ∷
+        goes (action.Input (partner.Named 2) 7 None)
+        (gets 3 (expr.Minus (term.Var 3) (term.Var 2)) ∷ []) 2 ∷
         []) ∷
         -- 4
         state (codes "GX") (
         -- to j ! gx(d) do o = j goto X;
-        goes (action.Output (partner.Named 0) 3 (Some (expr.One (term.Var 4)))) (gets 1 (expr.One (term.Var 0)) ∷ []) 5 ∷
+        goes (action.Output (partner.Named 0) 3 (Some (expr.One (term.Var 4))))
+        (gets 1 (expr.One (term.Var 0)) ∷ []) 5 ∷
         []) ∷
         -- 5
         state (codes "X") (

@@ -130,7 +130,10 @@ three_items_6 = record {
       record { place = Trans (guard_id 1 0); vars = []; slot = None } ∷
       [];
   links =
-      record { up = []; down = packet.Request 0 value.Unit ∷ packet.Ack ∷ packet.Request 0 value.Unit ∷ [] } ∷
+      record {
+        up = [];
+        down = packet.Request 0 value.Unit ∷ packet.Ack ∷ packet.Request 0 value.Unit ∷ [];
+      } ∷
       [];
 }
 
@@ -181,7 +184,11 @@ three_items_9 = record {
   };
   held = [];
   remotes =
-      record { place = Comm 0; vars = []; slot = Some (record { message = 0; value = value.Unit }) } ∷
+      record {
+        place = Comm 0;
+        vars = [];
+        slot = Some (record { message = 0; value = value.Unit });
+      } ∷
       [];
   links =
       no_packets ∷

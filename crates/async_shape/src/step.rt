@@ -1,13 +1,15 @@
 //! The steps of the asynchronous machine.
 
-/// A step. Guards are numbered within the state in which their process stands, and remotes, both from 0.
+/// A step. Guards are numbered within the state in which their process stands, and remotes, both
+/// from 0.
 #[derive(Clone, Copy, Debug, PartialEq, Eq)]
 pub enum Step {
     /// The home takes the local step of this guard.
     HomeTau(u32),
     /// The home takes the request that it holds of this remote.
     HomeTake(u32),
-    /// The home sends by this guard (first) to this remote (second): the reply that it owes, or a request.
+    /// The home sends by this guard (first) to this remote (second): the reply that it owes, or a
+    /// request.
     HomeSend(u32, u32),
     /// The home drops the request that it holds of this remote, and nacks it.
     HomeDrop(u32),

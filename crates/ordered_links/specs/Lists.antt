@@ -1,53 +1,53 @@
--- The packets on the links, and what a put and a take do to them. After each, the lists of all other
--- remotes, the other list of this one, and the number of remotes are as before.
-use Rattle.std.specs.Prelude.{◌≡◌, ℕ, List, [], ◌∷◌, ◌++◌, drop, slice_get, slice_set, slice_index_or, Option}
+-- The packets on the links, and what a put and a take do to them. After each, the lists of all
+-- other remotes, the other list of this one, and the number of remotes are as before.
+use Rattle.std.specs.Prelude.{◌≡◌, ℕ, List, [], ◌∷◌, ◌++◌, drop, Option}
+use Rattle.std.specs.Prelude.{slice_get, slice_set, slice_index_or}
 use Rattle.ordered_links.specs.declared.packet.Packet.{Packet}
 use Rattle.ordered_links.specs.Link.{Link, Up, Down}
 
--- The packets on a remote's up link, on their way to the home, and on its down link, on their way to the
--- remote. Of each list the first packet is the next one to be taken.
-pub record Two : Type 0 where
+-- The packets on a remote's up link, on their way to the home, and on its down link, on their way
+-- to the remote. Of each list the first packet is the next one to be taken.
+pub record LinkPair : Type 0 where
   pub up : List Packet
   pub down : List Packet
 
 -- Both links are empty.
-abbrev pub no_packets : Two
+abbrev pub no_packets : LinkPair
 no_packets = record { up = []; down = [] }
 
 -- The two links of this remote; past the last remote there are no packets.
-abbrev pub two_at : List Two → ℕ → Two
-two_at links j = slice_index_or links j no_packets
+abbrev pub links_at : List LinkPair → ℕ → LinkPair
+links_at links j = slice_index_or links j no_packets
+
+-- The packets on this link.
+abbrev pub packets_on : Link → List LinkPair → List Packet
+packets_on (Up j) links = (links_at links j).up
+packets_on (Down j) links = (links_at links j).down
+
+-- The links after the packets on this one have become these; all others are as before. Past the
+-- last remote nothing changes.
+abbrev pub with_packets : Link → List Packet → List LinkPair → List LinkPair
+with_packets (Up j) packets links = slice_set links j (record (links_at links j) { up = packets })
+with_packets (Down j) packets links =
+    slice_set links j (record (links_at links j) { down = packets })
 
 -- The first packet of a list, if there is one.
 abbrev pub first : List Packet → Option Packet
 first packets = slice_get packets 0
 
--- The packet stands at the end of remote j's up list.
-abbrev pub after_put_up : List Two → ℕ → Packet → List Two
-after_put_up links j packet =
-    slice_set links j (record (two_at links j) { up = (two_at links j).up ++ packet ∷ [] })
+-- A put: the packet stands at the end of this link's list.
+abbrev pub after_put : Link → Packet → List LinkPair → List LinkPair
+after_put link packet links = with_packets link (packets_on link links ++ packet ∷ []) links
 
--- The packet stands at the end of remote j's down list.
-abbrev pub after_put_down : List Two → ℕ → Packet → List Two
-after_put_down links j packet =
-    slice_set links j (record (two_at links j) { down = (two_at links j).down ++ packet ∷ [] })
-
--- The first packet of remote j's up list is gone.
-abbrev pub after_take_up : List Two → ℕ → List Two
-after_take_up links j =
-    slice_set links j (record (two_at links j) { up = drop 1 (two_at links j).up })
-
--- The first packet of remote j's down list is gone.
-abbrev pub after_take_down : List Two → ℕ → List Two
-after_take_down links j =
-    slice_set links j (record (two_at links j) { down = drop 1 (two_at links j).down })
+-- A take: the first packet of this link's list is gone.
+abbrev pub after_take : Link → List LinkPair → List LinkPair
+after_take link links = with_packets link (drop 1 (packets_on link links)) links
 
 -- A put that does what it does to the lists, and no more can be said of it.
-abbrev pub IsPut : List Two → Link → Packet → List Two → Type 0
-IsPut old (Up j) packet new = new ≡ after_put_up old j packet
-IsPut old (Down j) packet new = new ≡ after_put_down old j packet
+abbrev pub IsPut : List LinkPair → Link → Packet → List LinkPair → Type 0
+IsPut old link packet new = new ≡ after_put link packet old
 
 -- A take that does what it does to the lists, and no more can be said of it.
-abbrev pub IsTaken : List Two → Link → Option Packet → List Two → Type 0
-IsTaken old (Up j) answer new = (answer ≡ first (two_at old j).up) × (new ≡ after_take_up old j)
-IsTaken old (Down j) answer new = (answer ≡ first (two_at old j).down) × (new ≡ after_take_down old j)
+abbrev pub IsTaken : List LinkPair → Link → Option Packet → List LinkPair → Type 0
+IsTaken old link answer new =
+    (answer ≡ first (packets_on link old)) × (new ≡ after_take link old)

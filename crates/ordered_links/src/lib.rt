@@ -1,8 +1,8 @@
 //! The links between the home and its remotes.
 //!
-//! Between the home and each remote lie two links: an up link, which brings packets from the remote to
-//! the home, and a down link, which brings packets from the home to the remote. A link loses nothing
-//! and keeps the order: what was put first is taken first.
+//! Between the home and each remote lie two links: an up link, which brings packets from the remote
+//! to the home, and a down link, which brings packets from the home to the remote. A link loses
+//! nothing and keeps the order: what was put first is taken first.
 //!
 //! - `packet`: what travels.
 //! - `links`: the trait, what every implementation of links does to the lists of packets. Each

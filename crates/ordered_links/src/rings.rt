@@ -1,7 +1,8 @@
 //! Links that are rings.
 
-ghost use Rattle.std.specs.Prelude.{◌≡◌, ◌<◌, ◌≤◌, ◌++◌, ◌∷◌, [], drop, length, replicate, slice_get, IfOk};
-ghost use Rattle.ordered_links.specs.Lists.{Two, no_packets, first};
+ghost use Rattle.std.specs.Prelude.{◌≡◌, ◌<◌, ◌≤◌, ◌++◌, ◌∷◌, [], drop, length, replicate};
+ghost use Rattle.std.specs.Prelude.{slice_get, IfOk};
+ghost use Rattle.ordered_links.specs.Lists.{LinkPair, no_packets, first};
 
 use crate::links::Links;
 use crate::packet::Packet;
@@ -10,8 +11,8 @@ use rv_base::NoMemory;
 use std::alloc::Global;
 use std::marker::Model;
 
-/// The two links of one remote. A ring that is full would give up its first packet, so each is as large
-/// as a link's list can get.
+/// The two links of one remote. A ring that is full would give up its first packet, so each is as
+/// large as a link's list can get.
 #[derive(Drop)]
 struct Pair {
     up: HeapCircularBuffer<Packet>,
@@ -20,9 +21,9 @@ struct Pair {
 
 impl Model for Pair {
     ghost use Rattle.std.specs.Prelude.{◌≡◌};
-    ghost use Rattle.ordered_links.specs.Lists.{Two};
+    ghost use Rattle.ordered_links.specs.Lists.{LinkPair};
 
-    ghost Value = { Two };
+    ghost Value = { LinkPair };
 
     ghost view = { λ pair. record { up = pair.up.items; down = pair.down.items } };
 
@@ -80,9 +81,9 @@ impl Pair {
     }
 }
 
-/// The links between the home and from 1 to 64 remotes, each a ring that has room for as many packets
-/// as may be put on it. Contracts see the list of the remotes' pairs of lists. No call but `new` takes
-/// memory.
+/// The links between the home and from 1 to 64 remotes, each a ring that has room for as many
+/// packets as may be put on it. Contracts see the list of the remotes' pairs of lists. No call but
+/// `new` takes memory.
 #[derive(Drop)]
 pub struct RingLinks {
     pairs: Vec<Pair>,
@@ -90,9 +91,9 @@ pub struct RingLinks {
 
 impl Model for RingLinks {
     ghost use Rattle.std.specs.Prelude.{◌≤◌, List, length};
-    ghost use Rattle.ordered_links.specs.Lists.{Two};
+    ghost use Rattle.ordered_links.specs.Lists.{LinkPair};
 
-    ghost Value = { List Two };
+    ghost Value = { List LinkPair };
 
     ghost view = { λ links. links.pairs.items };
 

@@ -1,1 +1,5 @@
+pub mod HeldOfRemote
+pub mod HeldAfter
+pub mod OneOfEach
+pub mod Displaced
 mod FirstRequest

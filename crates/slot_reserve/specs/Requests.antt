@@ -1,6 +1,7 @@
 -- The list of the held requests, and what leaves it.
-use Rattle.std.specs.Prelude.{◌≢◌, ℕ, ◌-◌, ◌==◌, Bool, if◌then◌else◌, List, [], ◌∷◌, ◌++◌, All, length, take, slice_get, Option}
-use Rattle.std.specs.List.{find}
+use Rattle.std.specs.Prelude.{◌≢◌, ℕ, ◌-◌, ◌==◌, Bool, if◌then◌else◌, List, [], ◌∷◌, ◌++◌, length}
+use Rattle.std.specs.Prelude.{take, slice_get, Option}
+use Rattle.std.specs.List.{find, AllByRecursion}
 use Rattle.slot_reserve.specs.declared.held.Held.{Held}
 
 -- This remote sent the request.
@@ -13,10 +14,15 @@ first_of from held = find (is_from from) held
 
 -- This remote has no request among these.
 abbrev pub HasNone : ℕ → List Held → Type 0
-HasNone from held = All (λ request. request.from ≢ from) held
+HasNone from held = AllByRecursion (λ request. request.from ≢ from) held
 
--- The requests without the first one of this remote, the others in their order; all of them where it
--- has none.
+-- No two of the requests are of one remote.
+abbrev pub OneOfEach : List Held → Type 0
+OneOfEach [] = Unit {0}
+OneOfEach (request ∷ held) = HasNone request.from held × OneOfEach held
+
+-- The requests without the first one of this remote, the others in their order; all of them where
+-- it has none.
 abbrev pub without_first : ℕ → List Held → List Held
 without_first from [] = []
 without_first from (request ∷ held) =

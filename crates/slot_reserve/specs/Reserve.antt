@@ -7,8 +7,8 @@ pub record Reserve : Type 0 where
   pub size : ℕ
   pub held : List Held
 
--- There are from 2 to 64 slots, no more requests are held than there are slots, and there is room for
--- a request in each slot.
+-- There are from 2 to 64 slots, no more requests are held than there are slots, and there is room
+-- for a request in each slot.
 pub record IsReserve (size : ℕ) (held : List Held) (room : ℕ) : Type 0 where
   pub least : 2 ≤ size
   pub most : size ≤ 64

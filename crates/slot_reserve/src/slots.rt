@@ -1,10 +1,12 @@
 //! The slots.
 
-ghost use Rattle.std.specs.Prelude.{◌≡◌, ◌<◌, ◌≤◌, ◌↔◌, ◌+◌, [], ◌∷◌, ◌++◌, true, false, Some, length, IsTrue, IsNone, IfOk, IfNone};
+ghost use Rattle.std.specs.Prelude.{◌≡◌, ◌<◌, ◌≤◌, ◌↔◌, ◌+◌, [], ◌∷◌, ◌++◌, true, false, Some};
+ghost use Rattle.std.specs.Prelude.{length, IsTrue, IsNone, IfOk, IfNone};
 ghost use Rattle.std.specs.List.{find, position};
 ghost use Rattle.slot_reserve.specs.Admission as admission;
 ghost use Rattle.slot_reserve.specs.Admission.{admits};
-ghost use Rattle.slot_reserve.specs.Requests.{is_from, first_of, without_first, last_of, displaced, HasNone};
+ghost use Rattle.slot_reserve.specs.Requests.{is_from, first_of, without_first, last_of};
+ghost use Rattle.slot_reserve.specs.Requests.{displaced, HasNone};
 
 use crate::held::{Admitted, Held};
 use rv_base::NoMemory;
@@ -58,7 +60,7 @@ impl Slots {
         self.size
     }
 
-    /// How many slots can be given to a request that comes now.
+    // How many slots can be given to a request that comes now.
     fn free(&self, waiting: bool) -> usize
         requires { IsTrue waiting → length self.now.held < self.now.size }
         ensures { result ≡ admission.free self.now.size (length self.now.held) waiting }
@@ -71,29 +73,39 @@ impl Slots {
         }
     }
 
-    /// A request comes, which completes a guard of the home's state or doesn't, to a home that waits
-    /// for an answer or doesn't. It is held last, or nacked, and then nothing changes.
+    /// A request comes, which completes a guard of the home's state or doesn't, to a home that
+    /// waits for an answer or doesn't. It is held last, or nacked, and then nothing changes.
     pub fn admit(&mut self, request: Held, completes: bool, waiting: bool) -> Admitted
         requires { IsTrue waiting → length self.old.held < self.old.size }
         ensures kept { result ≡ Admitted.Kept
-            → (admits (admission.free self.old.size (length self.old.held) waiting) completes ≡ true)
+            → (admits (admission.free self.old.size (length self.old.held) waiting) completes
+            ≡ true)
             × (self.new ≡ record self.old { held = self.old.held ++ request ∷ [] }) }
         ensures nacked { result ≡ Admitted.Nacked
-            → (admits (admission.free self.old.size (length self.old.held) waiting) completes ≡ false)
+            → (admits (admission.free self.old.size (length self.old.held) waiting) completes
+            ≡ false)
             × (self.new ≡ self.old) }
     {
         let free = self.free(waiting);
         if free >= 2 || free == 1 && completes {
-            self.cross(request);
+            self.hold(request);
             Admitted::Kept
         } else {
             Admitted::Nacked
         }
     }
 
-    /// Holds the request last, whatever it completes: the one that crossed the home's own request, for
-    /// which the ack slot was kept.
+    /// Holds the request last, whatever it completes: the one that crossed the home's own request,
+    /// for which the ack slot was kept.
     pub fn cross(&mut self, request: Held)
+        requires { length self.old.held < self.old.size }
+        ensures { self.new ≡ record self.old { held = self.old.held ++ request ∷ [] } }
+    {
+        self.hold(request);
+    }
+
+    // Holds the request last: there is room for it.
+    fn hold(&mut self, request: Held)
         requires { length self.old.held < self.old.size }
         ensures { self.new ≡ record self.old { held = self.old.held ++ request ∷ [] } }
     {
@@ -103,8 +115,8 @@ impl Slots {
         }
     }
 
-    /// Removes the first request of this remote; the others keep their order. None exactly where the
-    /// remote has none, and then nothing changes.
+    /// Removes the first request of this remote; the others keep their order. None exactly where
+    /// the remote has none, and then nothing changes.
     pub fn take(&mut self, from: u8) -> Option<Held>
         ensures value { result ≡ first_of from self.old.held }
         ensures rest { self.new ≡ record self.old { held = without_first from self.old.held } }
@@ -130,12 +142,12 @@ impl Slots {
     {
         let last = self.requests.len() - 1;
         let removed = self.requests.remove(last);
-        self.cross(request);
+        self.hold(request);
         removed
     }
 }
 
-/// The place of the first request of this remote.
+// The place of the first request of this remote.
 fn first_place(held: &[Held], from: u8) -> Option<usize>
     ensures { result ≡ position (is_from from) held.now }
 {
