@@ -1,12 +1,12 @@
 pub mod Taking
-pub mod CutterTurns
 pub mod Further
+pub mod LinesTurns
 pub mod LinesOf
-pub mod Says
 pub mod EventWords
 pub mod ShownParts
 pub mod ClosedLines
 pub mod LinesSoFar
-pub mod ScheduledLines
 pub mod PlayedSoFar
+pub mod Asked
 pub mod ReplayEnds
+pub mod LastWrite

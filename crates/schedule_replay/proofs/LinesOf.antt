@@ -1,5 +1,6 @@
 -- The first line of a text, and the lines after it.
-use Rattle.std.proofs.Common.{◌≡◌, ◌≢◌, ℕ, suc, ◌<◌, ◌≤◌, List, [], ◌∷◌, ◌++◌, length, Bool, true, false, arith, refl, ap}
+use Rattle.std.proofs.Common.{◌≡◌, ◌≢◌, ℕ, suc, ◌<◌, ◌≤◌, List, [], ◌∷◌, ◌++◌, length, Bool, true}
+use Rattle.std.proofs.Common.{false, arith, refl, ap}
 use Rattle.std.proofs.lemmas.Grind.{common_steps}
 use Rattle.std.specs.Prelude.{◌==◌}
 use Rattle.schedule_replay.specs.Lines.{lines_of, onto_line, HasNoLf}
@@ -13,31 +14,44 @@ HasNoLf-first b bs none = none 0 b (omega arith)
 pub HasNoLf-rest : (b : ℕ) (bs : List ℕ) → HasNoLf (b ∷ bs) → HasNoLf bs
 HasNoLf-rest b bs none k d within = none (suc k) d (omega (arith, within))
 
-pub lines_of-closed : (line rest : List ℕ) → HasNoLf line → lines_of (line ++ 10 ∷ rest) ≡ line ∷ lines_of rest
+pub lines_of-closed : (line rest : List ℕ) → HasNoLf line
+    → lines_of (line ++ 10 ∷ rest) ≡ line ∷ lines_of rest
 lines_of-closed [] rest none = refl
-lines_of-closed (b ∷ bs) rest none = rw (no-lf b (HasNoLf-first b bs none), lines_of-closed bs rest (HasNoLf-rest b bs none)) refl
+lines_of-closed (b ∷ bs) rest none = rw (
+  no-lf b (HasNoLf-first b bs none),
+  lines_of-closed bs rest (HasNoLf-rest b bs none),
+) refl
 
 pub lines_of-open : (line : List ℕ) → HasNoLf line → 0 < length line → lines_of line ≡ line ∷ []
 lines_of-open [] none some = absurd (omega (arith, some))
 lines_of-open (b ∷ []) none some = rw (no-lf b (HasNoLf-first b [] none)) refl
 lines_of-open (b ∷ c ∷ bs) none some =
-    rw (no-lf b (HasNoLf-first b (c ∷ bs) none)) (ap (onto_line b) (lines_of-open (c ∷ bs) (HasNoLf-rest b (c ∷ bs) none) (omega arith)))
+    rw (no-lf b (HasNoLf-first b (c ∷ bs) none)) (ap (onto_line b)
+    (lines_of-open (c ∷ bs) (HasNoLf-rest b (c ∷ bs) none) (omega arith)))
 
 -- the lines begin with one of at least so many bytes
 abbrev pub BeginsWith : ℕ → List (List ℕ) → Type 0
-BeginsWith least lines = (first : List ℕ) × (more : List (List ℕ)) × (lines ≡ first ∷ more) × (least ≤ length first)
+BeginsWith least lines = (first : List ℕ) × (more : List (List ℕ)) × (lines ≡ first ∷ more) ×
+    (least ≤ length first)
 
 onto-first : (b : ℕ) (lines : List (List ℕ)) → BeginsWith 1 (onto_line b lines)
 onto-first b [] = (b ∷ [], [], refl, omega arith)
 onto-first b (line ∷ lines) = (b ∷ line, lines, refl, omega arith)
 
-onto-longer : (b least : ℕ) (lines : List (List ℕ)) → BeginsWith least lines → BeginsWith (suc least) (onto_line b lines)
+onto-longer : (b least : ℕ) (lines : List (List ℕ)) → BeginsWith least lines
+    → BeginsWith (suc least) (onto_line b lines)
 onto-longer b least lines h = (b ∷ h.0, h.1, ap (onto_line b) h.2, omega (arith, h.3))
 
-pub lines_of-longer : (line : List ℕ) (b : ℕ) (rest : List ℕ) → HasNoLf line → b ≢ 10 → BeginsWith (suc (length line)) (lines_of (line ++ b ∷ rest))
-lines_of-longer [] b rest none n = rw (no-lf b n) (onto-first b (lines_of rest))
-lines_of-longer (c ∷ line) b rest none n =
-    rw (no-lf c (HasNoLf-first c line none)) (onto-longer c (suc (length line)) (lines_of (line ++ b ∷ rest)) (lines_of-longer line b rest (HasNoLf-rest c line none) n))
+-- bytes that hold no LF are in the first line
+pub lines_of-front : (front rest : List ℕ) → HasNoLf front → 0 < length front
+    → BeginsWith (length front) (lines_of (front ++ rest))
+lines_of-front [] rest none some = absurd (omega (arith, some))
+lines_of-front (b ∷ []) rest none some = rw (no-lf b (HasNoLf-first b [] none))
+    (onto-first b (lines_of rest))
+lines_of-front (b ∷ c ∷ bs) rest none some =
+    rw (no-lf b (HasNoLf-first b (c ∷ bs) none))
+    (onto-longer b (length (c ∷ bs)) (lines_of ((c ∷ bs) ++ rest))
+    (lines_of-front (c ∷ bs) rest (HasNoLf-rest b (c ∷ bs) none) (omega arith)))
 
 begins : (b : ℕ) (bs : List ℕ) (lf : Bool) → (b == 10) ≡ lf → BeginsWith 0 (lines_of (b ∷ bs))
 begins b bs true e = rw e ([], lines_of bs, refl, omega arith)

@@ -1,153 +1,314 @@
--- What each answer of a replay says, from the lines read and played so far and the last call.
-use Rattle.std.proofs.Common.{◌≡◌, ◌≢◌, Bool, ℕ, ◌+◌, ◌<◌, ◌≤◌, List, [], ◌∷◌, ◌++◌, length, take, Some, None, true, false, arith, refl, sym, ◌∙◌, ap}
+-- How each answer of the loop that replays a schedule comes about.
+use Rattle.std.proofs.Common.{◌≡◌, ℕ, suc, ◌+◌, ◌<◌, ◌≤◌, List, [], ◌∷◌, ◌++◌, length, take, Bool}
+use Rattle.std.proofs.Common.{true, false, Some, None, inl, inr, arith, refl, sym, ◌∙◌, ap, subst}
+use Rattle.std.proofs.Common.{append_assoc}
+use Rattle.std.proofs.lemmas.List.{append-nil}
 use Rattle.std.specs.Prelude.{IfSome}
 use Rattle.std.specs.declared.option.Option.{Option}
 use Rattle.std.specs.Io.KnownBytes.{append_known}
-use Rattle.schedule_replay.specs.Lines.{joined}
-use Rattle.schedule_replay.specs.Play.{Play}
+use Rattle.rv_base.specs.Whole.{TakesAtMost}
+use Rattle.schedule_replay.specs.Limits.{most_taken}
+use Rattle.schedule_replay.specs.Lines.{lines_of, HasNoLf, closed_lines, open_part, joined}
 use Rattle.schedule_replay.specs.Reading.{Reading}
 use Rattle.schedule_replay.specs.NextLine.{GetsLine, FindsEnd, FindsLong, FindsMany, Breaks}
-use Rattle.schedule_replay.specs.Scheduled.{Whole, AtLine, TooMany, stops, after_items, scheduled_lines}
-use Rattle.schedule_replay.specs.Trace.{numbered_block, blocks, trace}
-use Rattle.schedule_replay.specs.Turns.{PutsPart}
-use Rattle.schedule_replay.specs.Replayed.{line_decides, count_decides, TakesFew, WroteFront, StopsSo, WritesSo}
-use Rattle.schedule_replay.specs.declared.replaying.Replayed.TheVariants.{Done, BadLine, TooManyLines, ReadFault}
-use Rattle.schedule_replay.specs.declared.lines.NextLine.{NextLine}
-use Rattle.schedule_replay.specs.declared.lines.NextLine.TheVariants.{Got, End}
-use Rattle.schedule_replay.specs.declared.player.Meaning.TheVariants.{Bad}
-use Rattle.schedule_replay.proofs.ScheduledLines.{follows-long, follows-many}
-use Rattle.schedule_replay.proofs.LinesSoFar.{Reads, Reads-more, Reads-front, Reads-end, Reads-refused, Reads-long, Reads-many, Reads-broken}
-use Rattle.schedule_replay.proofs.PlayedSoFar.{IfSome-from, Plays, EndsAfter, stop-after, wrote-refused, wrote-told, ends-whole, wrote-whole, wrote-part, next-block, next-ending, ends-bad, nothing-refused, blocks_taken-is, items_of}
+use Rattle.schedule_replay.specs.Play.{Play}
+use Rattle.schedule_replay.specs.Played.{Stop, Whole, AtLine, TooMany, Halted, Played, played_from}
+use Rattle.schedule_replay.specs.Replayed.{answer_of, LeavesAt, TakesFew, line_decides, BreaksOff}
+use Rattle.schedule_replay.specs.Replayed.{blocks_taken, NothingStops, is_read_fault}
+use Rattle.schedule_replay.specs.Replayed.{is_write_fault}
+use Rattle.schedule_replay.specs.Turns.{PutsFront, AskEnds, AskKeeps, GoesOn, LineEnds, Ending, Cut}
+use Rattle.schedule_replay.specs.Turns.{PlaysLines, PlaysItem}
+use Rattle.schedule_replay.specs.declared.limits.Limits.{Limits}
+use Rattle.schedule_replay.specs.declared.player.Meaning.TheVariants.{Says, Bad}
+use Rattle.schedule_replay.specs.declared.replaying.Replayed.{Replayed}
+use Rattle.schedule_replay.specs.declared.replaying.Replayed.TheVariants.{Done, BadLine}
+use Rattle.schedule_replay.specs.declared.replaying.Replayed.TheVariants.{TooManyLines, ClaimBroken}
+use Rattle.schedule_replay.specs.declared.replaying.Replayed.TheVariants.{ReadFault, WriteFault}
+use Rattle.schedule_replay.specs.declared.replaying.Replayed.TheVariants.{NoMemory}
+use Rattle.schedule_replay.proofs.ClosedLines.{EachLine, closed_lines-joined, open_part-joined}
+use Rattle.schedule_replay.proofs.LinesSoFar.{Reads, Reads-more, Reads-front, Reads-refused}
+use Rattle.schedule_replay.proofs.LinesSoFar.{Reads-end, Reads-long, Reads-many, Reads-broken}
+use Rattle.schedule_replay.proofs.LinesSoFar.{Reads-few, long-few, many-few, broken-few, lacks-few}
+use Rattle.schedule_replay.proofs.PlayedSoFar.{Plays, Ends, Ends-start, Ends-item, Ends-bad}
+use Rattle.schedule_replay.proofs.PlayedSoFar.{Ends-long, Ends-many, Ends-whole, Plays-blank}
+use Rattle.schedule_replay.proofs.PlayedSoFar.{Plays-item, Plays-asked, Plays-cut, puts-none}
 
--- A source that was found at its end gives no other answer.
-pub going : (ended : Bool) (answer : NextLine) {Stays : Type 0} → (ended ≡ true → (answer ≡ End) × Stays) → answer ≢ End → ended ≡ false
-going true answer rests other = absurd (other (rests refl).0)
-going false answer rests other = refl
+-- where bytes are told
+pub IfSome-from : (known : Option (List ℕ)) (P : List ℕ → Type 0)
+    → ((bytes : List ℕ) → known ≡ Some bytes → P bytes) → IfSome known P
+IfSome-from None P holds = tt
+IfSome-from (Some bytes) P holds = holds bytes refl
+
+-- what asking did, with the limits of the whole replay
+pub gets-within : {limits most : Limits} {old new : Reading} {before after : Option (List ℕ)}
+    {number : ℕ} → most ≡ limits → GetsLine most old new before after number
+    → GetsLine limits old new before after number
+gets-within {limits} {most} {old} {new} {before} {after} {number} same gets =
+    subst (λ (m : Limits). GetsLine m old new before after number) same gets
+
+pub ends-within : (limits most : Limits) (old new : Reading) (before after : Option (List ℕ))
+    (answer : Replayed) → most ≡ limits → AskEnds most old new before after answer
+    → AskEnds limits old new before after answer
+ends-within limits most old new before after answer same ends =
+    subst (λ (m : Limits). AskEnds m old new before after answer) same ends
 
 -- A line was got after those that were read.
-pub record GotLine (left now after : Option (List ℕ)) (r new : Reading) (done : List (List ℕ)) (number : ℕ) : Type 0 where
-  pub reads : Reads left after new (done ++ new.text ∷ [])
-  pub few : length done < 1000000
-  pub fits : length new.text ≤ 256
+pub record GotLine (limits : Limits) (left after : Option (List ℕ)) (new : Reading)
+    (done : List (List ℕ)) (number : ℕ) : Type 0 where
+  pub reads : Reads limits left after new (done ++ new.text ∷ [])
+  pub few : length done < limits.lines
+  pub fits : length new.text ≤ limits.line
   pub number_is : number ≡ length done + 1
 
-pub got : {left now after : Option (List ℕ)} {r new : Reading} {done : List (List ℕ)} {number : ℕ} {answer : NextLine} {Stays : Type 0} → Reads left now r done → answer ≡ Got number → (r.ended ≡ true → (answer ≡ End) × Stays)
-    → GetsLine r new now after number → new.live ≡ true → GotLine left now after r new done number
-got {left} {now} {after} {r} {new} {done} {number} {answer} reads is rests gets live = record {
-  reads = Reads-more left now after r new done number reads (going r.ended answer rests (λ end. cc)) gets live;
+pub got : {limits : Limits} {left now after : Option (List ℕ)} {r new : Reading}
+    {done : List (List ℕ)} {number : ℕ} → Reads limits left now r done
+    → GetsLine limits r new now after number → GotLine limits left after new done number
+got {limits} {left} {now} {after} {r} {new} {done} {number} reads gets = record {
+  reads = Reads-more limits reads gets;
   few = omega (arith, gets.number_is, gets.within, reads.got);
   fits = gets.fits;
   number_is = gets.number_is ∙ ap (λ n. n + 1) (sym reads.got);
 }
 
--- where both are told
-both-told : (left before : Option (List ℕ)) (P : List ℕ → List ℕ → Type 0) → ((text bytes : List ℕ) → left ≡ Some text → before ≡ Some bytes → P text bytes) → IfSome left (λ text. IfSome before (λ bytes. P text bytes))
-both-told None before P holds = tt
-both-told (Some text) None P holds = tt
-both-told (Some text) (Some bytes) P holds = holds text bytes refl refl
+module _ {State Item : Type 0} (play : Play State Item) (limits : Limits) (start : State) where
+  -- the schedule ends so
+  ending : {text : List ℕ} {left before now : Option (List ℕ)} {kept : List ℕ} {state : State}
+      {lines : List (List ℕ)} {stop : Stop} → lines_of text ≡ lines
+      → Ends play limits start before now kept state lines stop → LeavesAt limits stop text left
+      → Ending play limits start text left before now kept state (answer_of stop)
+  ending {text} {left} {before} {now} {kept} {state} {lines} {stop} same h leaves = record {
+    stop = stop;
+    answer = refl;
+    leaves = leaves;
+    gone = h.gone;
+    written = h.written;
+    ends = ap (played_from play limits start) same ∙ h.ends;
+  }
 
-module _ {State Item : Type 0} (play : Play State Item) (start : State) where
-  -- A line is refused at that number.
-  pub record RefusedAt (done : List (List ℕ)) (text : List ℕ) (number : ℕ) (after : Option (List ℕ)) : Type 0 where
-    pub ends : EndsAfter play start done text (AtLine number)
-    pub few : TakesFew (line_decides number text) text after
+  -- What is owed of a schedule whose bytes are told.
+  abbrev pub Owes : Option (List ℕ) → Option (List ℕ) → Option (List ℕ) → Option (List ℕ) → List ℕ
+      → State → Replayed → Type 0
+  Owes told left before now kept state result = IfSome told
+      (λ text. PlaysLines play limits start text left before now kept state result)
 
-  pub bad-at : {left now after before written : Option (List ℕ)} {r new : Reading} {done : List (List ℕ)} {number count : ℕ} {state : State} → GotLine left now after r new done number → Plays play start before written state count done → play.says new.text ≡ Bad
-      → (text : List ℕ) → left ≡ Some text → RefusedAt done text number after
-  bad-at {left} {now} {after} {before} {written} {r} {new} {done} {number} {count} {state} line plays means text told =
-      let front = Reads-front left after new (done ++ new.text ∷ []) text line.reads told in
-      let ends = ends-bad play start before written state count done new.text text front.0 plays line.few line.fits means front.1 in
-      record {
-        ends = ends ∙ ap (λ n. after_items (items_of play start done) (stops (AtLine n))) (sym line.number_is);
-        few = Reads-refused left after new done new.text text number line.reads line.fits line.number_is told;
-      }
+  pub halts-at-once : (left before : Option (List ℕ)) (claim : ℕ) → play.halts start ≡ Some claim
+      → Owes left left before before [] start (ClaimBroken claim)
+  halts-at-once left before claim halts = IfSome-from left
+      (λ text. PlaysLines play limits start text left before before [] start (ClaimBroken claim))
+      (λ text told. ending refl (Ends-start play limits start before (lines_of text) claim halts)
+      told)
 
-  pub long-at : {left now after before written : Option (List ℕ)} {r new : Reading} {done : List (List ℕ)} {number count : ℕ} {state : State} → Reads left now r done → r.ended ≡ false → FindsLong r new now after number → Plays play start before written state count done
-      → (text : List ℕ) → left ≡ Some text → RefusedAt done text number after
-  long-at {left} {now} {after} {before} {written} {r} {new} {done} {number} {count} {state} reads goes finds plays text told =
-      let long = Reads-long left now after r new done number text reads goes finds told in
-      record {
-        ends = ap (scheduled_lines play.says 0) long.lines ∙ (follows-long play.says done long.first long.more plays.whole long.within long.long ∙ ap (λ n. after_items (items_of play start done) (stops (AtLine n))) (sym long.number_is));
-        few = long.few;
-      }
-
-  pub refused-stops : (left after : Option (List ℕ)) (done : List (List ℕ)) (number : ℕ) → ((text : List ℕ) → left ≡ Some text → RefusedAt done text number after) → IfSome left (λ text. StopsSo play text after (BadLine number))
-  refused-stops left after done number refused = IfSome-from left (λ text. StopsSo play text after (BadLine number)) (λ text told. (stop-after play start done text (AtLine number) (refused text told).ends, (refused text told).few))
-
-  pub refused-writes : {before written : Option (List ℕ)} {state : State} {count : ℕ} (left after : Option (List ℕ)) (done : List (List ℕ)) (number : ℕ) → Plays play start before written state count done → ((text : List ℕ) → left ≡ Some text → RefusedAt done text number after)
-      → IfSome left (λ text. IfSome before (λ bytes. WritesSo play start text after bytes written (BadLine number)))
-  refused-writes {before} {written} {state} {count} left after done number plays refused = both-told left before (λ text bytes. WritesSo play start text after bytes written (BadLine number))
-      (λ text bytes told told_out. wrote-refused play start before written state count done text bytes (AtLine number) plays told_out (refused text told).ends refl)
-
-  -- There are too many lines.
-  pub record ManyAt (done : List (List ℕ)) (text : List ℕ) (after : Option (List ℕ)) : Type 0 where
-    pub ends : EndsAfter play start done text TooMany
-    pub few : TakesFew (count_decides text) text after
-
-  many-at : {left now after before written : Option (List ℕ)} {r new : Reading} {done : List (List ℕ)} {count : ℕ} {state : State} → Reads left now r done → r.ended ≡ false → FindsMany r new now after → Plays play start before written state count done
-      → (text : List ℕ) → left ≡ Some text → ManyAt done text after
-  many-at {left} {now} {after} {before} {written} {r} {new} {done} {count} {state} reads goes finds plays text told =
-      let many = Reads-many left now after r new done text reads goes finds told in
-      record {
-        ends = ap (scheduled_lines play.says 0) many.lines ∙ follows-many play.says done many.first many.more plays.whole many.full;
-        few = many.few;
-      }
-
-  pub many-stops : {left now after before written : Option (List ℕ)} {r new : Reading} {done : List (List ℕ)} {count : ℕ} {state : State} → Reads left now r done → r.ended ≡ false → FindsMany r new now after → Plays play start before written state count done
-      → IfSome left (λ text. StopsSo play text after TooManyLines)
-  many-stops {left} {now} {after} {before} {written} {r} {new} {done} reads goes finds plays = IfSome-from left (λ text. StopsSo play text after TooManyLines)
-      (λ text told. let many = many-at reads goes finds plays text told in (stop-after play start done text TooMany many.ends, many.few))
-
-  pub many-writes : {left now after before written : Option (List ℕ)} {r new : Reading} {done : List (List ℕ)} {count : ℕ} {state : State} → Reads left now r done → r.ended ≡ false → FindsMany r new now after → Plays play start before written state count done
-      → IfSome left (λ text. IfSome before (λ bytes. WritesSo play start text after bytes written TooManyLines))
-  many-writes {left} {now} {after} {before} {written} {r} {new} {done} {count} {state} reads goes finds plays = both-told left before (λ text bytes. WritesSo play start text after bytes written TooManyLines)
-      (λ text bytes told told_out. wrote-refused play start before written state count done text bytes TooMany plays told_out (many-at reads goes finds plays text told).ends refl)
-
-  -- All lines were read.
-  pub end-stops : {left now after before written : Option (List ℕ)} {r new : Reading} {done : List (List ℕ)} {count : ℕ} {state : State} → Reads left now r done → FindsEnd r new now after → Plays play start before written state count done
-      → IfSome left (λ text. StopsSo play text after Done)
-  end-stops {left} {now} {after} {before} {written} {r} {new} {done} reads finds plays = IfSome-from left (λ text. StopsSo play text after Done)
-      (λ text told. let end = Reads-end left now after r new done text reads finds told in (stop-after play start done text Whole (ends-whole play start done text plays.whole end.0), end.1))
-
-  pub end-writes : {left now after before written : Option (List ℕ)} {r new : Reading} {done : List (List ℕ)} {count : ℕ} {state : State} (later : Option (List ℕ)) → Reads left now r done → FindsEnd r new now after → Plays play start before written state count done
-      → later ≡ append_known written (play.ending state) → IfSome left (λ text. IfSome before (λ bytes. WritesSo play start text after bytes later Done))
-  end-writes {left} {now} {after} {before} {written} {r} {new} {done} {count} {state} later reads finds plays wrote = both-told left before (λ text bytes. WritesSo play start text after bytes later Done)
-      (λ text bytes told told_out. wrote-whole play start before written later state count done text bytes plays told_out (Reads-end left now after r new done text reads finds told).0 wrote)
-
-  -- A front of the last text was written.
-  pub ending-part : {left now after before written : Option (List ℕ)} {r new : Reading} {done : List (List ℕ)} {count : ℕ} {state : State} (later : Option (List ℕ)) → Reads left now r done → FindsEnd r new now after → Plays play start before written state count done
-      → ((part : ℕ) × (later ≡ append_known written (take part (play.ending state)))) → IfSome left (λ text. IfSome before (λ bytes. WroteFront bytes (trace play start text) later))
-  ending-part {left} {now} {after} {before} {written} {r} {new} {done} {count} {state} later reads finds plays part = both-told left before (λ text bytes. WroteFront bytes (trace play start text) later)
-      (λ text bytes told told_out.
-      let next = next-ending play start before written state count done text plays (Reads-end left now after r new done text reads finds told).0 in
-      wrote-part play start before written later state count done text bytes (play.ending state) next.0 part.0 plays told_out next.1 part.1)
-
-  -- A front of a block was written.
-  pub block-part : {left now after before written : Option (List ℕ)} {r new : Reading} {done : List (List ℕ)} {number count : ℕ} {state : State} (later : Option (List ℕ)) → GotLine left now after r new done number → Plays play start before written state count done
-      → PutsPart play state count new.text written later → IfSome left (λ text. IfSome before (λ bytes. WroteFront bytes (trace play start text) later))
-  block-part {left} {now} {after} {before} {written} {r} {new} {done} {number} {count} {state} later line plays part = both-told left before (λ text bytes. WroteFront bytes (trace play start text) later)
-      (λ text bytes told told_out.
-      let front = Reads-front left after new (done ++ new.text ∷ []) text line.reads told in
-      let next = next-block play start before written state count done new.text part.0 front.0 text plays line.few line.fits part.1 front.1 in
-      wrote-part play start before written later state count done text bytes (numbered_block play count state part.0) next.0 part.2 plays told_out next.1 part.3)
-
-  -- The source gave no more.
-  pub broken-stops : {left now after before written : Option (List ℕ)} {r new : Reading} {done : List (List ℕ)} {count : ℕ} {state : State} → Reads left now r done → r.ended ≡ false → Breaks r new now after → Plays play start before written state count done
-      → IfSome left (λ text. StopsSo play text after ReadFault)
-  broken-stops {left} {now} {after} {before} {written} {r} {new} {done} reads goes breaks plays = IfSome-from left (λ text. StopsSo play text after ReadFault)
+  pub halts-after : {left after before now : Option (List ℕ)} {new : Reading} {kept held : List ℕ}
+      {state then : State} {done : List (List ℕ)} {number count claim : ℕ}
+      → GotLine limits left after new done number
+      → Plays play limits start before now kept state count done
+      → PlaysItem play state then count new.text kept held × (play.halts then ≡ Some claim)
+      → Owes left after before now held then (ClaimBroken claim)
+  halts-after {left} {after} {before} {now} {new} {kept} {held} {state} {then} {done} {number}
+      {count} {claim} line plays ((item, says, moved, tells), halts) =
+      IfSome-from left (λ text. PlaysLines play limits start text after before now held then
+      (ClaimBroken claim))
       (λ text told.
-      let broken = Reads-broken left now after r new done text reads goes breaks told in
-      (joined done ++ broken.part, broken.rest, broken.all, broken.left, nothing-refused play start done broken.part broken.each broken.one_line broken.fits broken.none_past plays.whole))
+      let front = Reads-front limits text line.reads told in
+      let next : length done + 1 ≡ suc (length done) = omega arith in
+      let ends = subst (λ n. Ends play limits start before now held then
+      ((done ++ new.text ∷ []) ++ front.0) (Halted n claim)) next
+      (rw (tells, moved) (Ends-item play limits start before now kept state count done new.text item
+      claim plays line.few line.fits says (ap play.halts (sym moved) ∙ halts) front.0)) in
+      ending front.1 ends (Reads-refused limits done new.text text (suc (length done))
+      line.reads line.fits (sym next) told))
 
-  pub broken-writes : {left now after before written : Option (List ℕ)} {r new : Reading} {done : List (List ℕ)} {count : ℕ} {state : State} → Reads left now r done → r.ended ≡ false → Breaks r new now after → Plays play start before written state count done
-      → IfSome left (λ text. IfSome before (λ bytes. WritesSo play start text after bytes written ReadFault))
-  broken-writes {left} {now} {after} {before} {written} {r} {new} {done} reads goes breaks plays = both-told left before (λ text bytes. WritesSo play start text after bytes written ReadFault)
-      (λ text bytes told told_out.
-      let broken = Reads-broken left now after r new done text reads goes breaks told in (
+  pub bad-line : {left after before now : Option (List ℕ)} {new : Reading} {kept : List ℕ}
+      {state : State} {done : List (List ℕ)} {number count : ℕ}
+      → GotLine limits left after new done number
+      → Plays play limits start before now kept state count done
+      → play.says new.text ≡ Bad → Owes left after before now kept state (BadLine number)
+  bad-line {left} {after} {before} {now} {new} {kept} {state} {done} {number}
+      {count} line plays says = IfSome-from left (λ text.
+      PlaysLines play limits start text after before now kept state (BadLine number))
+      (λ text told.
+      let front = Reads-front limits text line.reads told in
+      let ends = subst (λ n. Ends play limits start before now kept state
+      ((done ++ new.text ∷ []) ++ front.0) (AtLine n)) (sym line.number_is)
+      (Ends-bad play limits start before now kept state count done new.text plays line.few line.fits
+      says front.0) in
+      ending front.1 ends (Reads-refused limits done new.text text number line.reads line.fits
+      line.number_is told))
+
+  pub long-line : {left now after before written : Option (List ℕ)} {r new : Reading}
+      {kept : List ℕ} {state : State} {done : List (List ℕ)} {number count : ℕ}
+      → Reads limits left now r done → FindsLong limits r new now after number
+      → Plays play limits start before written kept state count done
+      → Owes left after before written kept state (BadLine number)
+  long-line {left} {now} {after} {before} {written} {r} {new} {kept} {state} {done} {number}
+      {count} reads finds plays = IfSome-from left (λ text.
+      PlaysLines play limits start text after before written kept state (BadLine number))
+      (λ text told.
+      let long = Reads-long limits text reads finds told in
+      let ends = subst (λ n. Ends play limits start before written kept state
+      (done ++ long.first ∷ long.more) (AtLine n)) (sym long.number_is)
+      (Ends-long play limits start before written kept state count done long.first long.more plays
+      long.within long.long) in
+      ending long.lines ends long.few)
+
+  pub many-lines : {left now after before written : Option (List ℕ)} {r new : Reading}
+      {kept : List ℕ} {state : State} {done : List (List ℕ)} {count : ℕ}
+      → Reads limits left now r done → FindsMany limits r new now after
+      → Plays play limits start before written kept state count done
+      → Owes left after before written kept state TooManyLines
+  many-lines {left} {now} {after} {before} {written} {r} {new} {kept} {state} {done}
+      {count} reads finds plays = IfSome-from left (λ text.
+      PlaysLines play limits start text after before written kept state TooManyLines)
+      (λ text told.
+      let many = Reads-many limits text reads finds told in
+      ending many.lines (Ends-many play limits start before written kept state count done many.first
+      many.more plays many.full) many.few)
+
+  pub all-lines : {left now after before written : Option (List ℕ)} {r new : Reading}
+      {kept : List ℕ} {state : State} {done : List (List ℕ)} {count : ℕ}
+      → Reads limits left now r done → FindsEnd r new now after
+      → Plays play limits start before written kept state count done
+      → Owes left after before written kept state Done
+  all-lines {left} {now} {after} {before} {written} {r} {new} {kept} {state} {done}
+      {count} reads finds plays = IfSome-from left (λ text.
+      PlaysLines play limits start text after before written kept state Done)
+      (λ text told.
+      let end = Reads-end limits text reads finds told in
+      ending end.0 (Ends-whole play limits start before written kept state count done plays) end.1)
+
+  -- the source gave no more, and all that was kept is written
+  pub broken-off : {left now after before written : Option (List ℕ)} {r new : Reading}
+      {kept : List ℕ} {state : State} {done : List (List ℕ)} {count : ℕ}
+      → Reads limits left now r done → Breaks limits r new now after
+      → Plays play limits start before written kept state count done → kept ≡ []
+      → Owes left after before written kept state ReadFault
+  broken-off {left} {now} {after} {before} {written} {r} {new} {kept} {state} {done}
+      {count} reads breaks plays none = IfSome-from left
+      (λ text. PlaysLines play limits start text after before written kept state ReadFault)
+      (λ text told.
+      let broken = Reads-broken limits text reads breaks told in
+      let closed : closed_lines (joined done ++ broken.part) ≡ done =
+      closed_lines-joined done broken.part broken.each broken.one_line in
+      let part : open_part (joined done ++ broken.part) ≡ broken.part =
+      open_part-joined done broken.part broken.each broken.one_line in
+      let ends = Ends-whole play limits start before written kept state count done plays in
+      let all = ap (played_from play limits start) closed ∙ ends.ends in
+      let blocks : ends.gone ≡ blocks_taken play limits start (joined done ++ broken.part) =
+      sym (ap (λ (p : Played State). p.blocks) all ∙ (append-nil (ends.gone ++ kept)
+      ∙ (ap (λ more. ends.gone ++ more) none ∙ append-nil ends.gone))) in (
         joined done ++ broken.part,
-        broken.rest,
-        broken.all,
-        broken.left,
-        nothing-refused play start done broken.part broken.each broken.one_line broken.fits broken.none_past plays.whole,
-        wrote-told before written bytes (blocks play 0 start (items_of play start done)) plays.written told_out ∙ ap (λ (more : List ℕ). Some (bytes ++ more)) (blocks_taken-is play start done broken.part broken.each broken.one_line),
+        (
+          (broken.rest, broken.all, broken.left),
+          (
+            ap (λ (p : Played State). p.stop) all,
+            omega (arith, ap length part, broken.fits),
+            λ full. part
+                ∙ broken.none_past (sym (ap length closed) ∙ full),
+          ),
+        ),
+        ends.written ∙ ap (append_known before) blocks,
       ))
+
+  -- a front of what is kept was written
+  cut : {left now before written after : Option (List ℕ)} {r : Reading} {kept : List ℕ}
+      {state : State} {done : List (List ℕ)} {count : ℕ} → Reads limits left now r done
+      → Plays play limits start before written kept state count done → PutsFront written kept after
+      → IfSome left (λ text. Cut play limits start text before after)
+  cut {left} {now} {before} {written} {after} {r} {kept} {state} {done} {count} reads plays puts =
+      IfSome-from left (λ text. Cut play limits start text before after)
+      (λ text told.
+      let front = Reads-front limits text reads told in
+      Plays-cut play limits start before written after kept state count done front.0 text plays
+      front.1 puts)
+
+  line-cut : {left after before written : Option (List ℕ)} {new : Reading} {kept : List ℕ}
+      {state : State} {done : List (List ℕ)} {number count : ℕ}
+      → GotLine limits left after new done number
+      → Plays play limits start before written kept state count done
+      → IfSome left (λ text. Cut play limits start text before written)
+  line-cut {left} {after} {before} {written} {new} {kept} {state} {done} {number}
+      {count} line plays = IfSome-from left (λ text. Cut play limits start text before written)
+      (λ text told.
+      let front = Reads-front limits text line.reads told in
+      Plays-cut play limits start before written written kept state count done (new.text ∷ front.0)
+      text plays (front.1 ∙ append_assoc done (new.text ∷ []) front.0) (puts-none written kept))
+
+  -- there is no further line
+  pub ask-owes : {left now before written : Option (List ℕ)} {r : Reading} {kept : List ℕ}
+      {state : State} {done : List (List ℕ)} {count : ℕ} (after wrote : Option (List ℕ))
+      (new : Reading) (held : List ℕ) (answer : Replayed) → Reads limits left now r done
+      → AskEnds limits r new now after answer
+      → Plays play limits start before written kept state count done
+      → AskKeeps kept held written wrote answer → Owes left after before wrote held state answer
+  ask-owes {left} {now} {before} {written} {r} {kept} {state} {done}
+      {count} after wrote new held Done reads finds plays keeps =
+      all-lines reads finds (Plays-asked play limits start before written wrote kept held state
+      count done plays keeps)
+  ask-owes {left} {now} {before} {written} {r} {kept} {state} {done} {count} after wrote new held
+      (BadLine number) reads finds plays keeps =
+      long-line reads finds (Plays-asked play limits start before written wrote kept held state
+      count done plays keeps)
+  ask-owes {left} {now} {before} {written} {r} {kept} {state} {done}
+      {count} after wrote new held TooManyLines reads finds plays keeps =
+      many-lines reads finds (Plays-asked play limits start before written wrote kept held state
+      count done plays keeps)
+  ask-owes after wrote new held (ClaimBroken claim) reads finds plays keeps = absurd finds
+  ask-owes {left} {now} {before} {written} {r} {kept} {state} {done}
+      {count} after wrote new held ReadFault reads finds plays keeps =
+      broken-off reads finds (Plays-asked play limits start before written wrote kept held state
+      count done plays (inr keeps)) keeps.0
+  ask-owes after wrote new held WriteFault reads finds plays keeps = cut reads plays keeps
+  ask-owes after wrote new held NoMemory reads finds plays keeps = cut reads plays keeps
+
+  -- the schedule ends at the line that was got
+  pub line-owes : {left after before written : Option (List ℕ)} {new : Reading} {kept : List ℕ}
+      {state : State} {done : List (List ℕ)} {number count : ℕ} (held : List ℕ) (then : State)
+      (answer : Replayed) → GotLine limits left after new done number
+      → Plays play limits start before written kept state count done
+      → LineEnds play state then count new.text number kept held answer
+      → Owes left after before written held then answer
+  line-owes held then Done line plays ends = absurd ends
+  line-owes held then (BadLine bad) line plays (same, says, moved, stays) =
+      rw (same, moved, stays) (bad-line line plays says)
+  line-owes held then TooManyLines line plays ends = absurd ends
+  line-owes held then (ClaimBroken claim) line plays ends = halts-after line plays ends
+  line-owes held then ReadFault line plays ends = absurd ends
+  line-owes held then WriteFault line plays ends = absurd ends
+  line-owes held then NoMemory line plays ends = line-cut line plays
+
+  -- the line that was got was played, and the schedule goes on
+  pub line-plays : {left after before written : Option (List ℕ)} {new : Reading}
+      {kept held : List ℕ} {state then : State} {done : List (List ℕ)} {number count next : ℕ}
+      → GotLine limits left after new done number
+      → Plays play limits start before written kept state count done
+      → GoesOn play state then count next new.text kept held
+      → Plays play limits start before written held then next (done ++ new.text ∷ [])
+  line-plays {left} {after} {before} {written} {new} {kept} {held} {state} {then} {done} {number}
+      {count} line plays (inl (says, moved, same, stays)) =
+      rw (moved, same, stays) (Plays-blank play limits start before written kept state count done
+      new.text plays line.few line.fits says)
+  line-plays {left} {after} {before} {written} {new} {kept} {held} {state} {then} {done} {number}
+      {count} line plays (inr ((item, says, moved, tells), halts, more)) =
+      rw (tells, moved, more) (Plays-item play limits start before written kept state count done
+      new.text item plays line.few line.fits says (ap play.halts (sym moved) ∙ halts))
+
+-- few bytes were taken
+still-few : (limits : Limits) (left now after : Option (List ℕ)) (r : Reading)
+    (done : List (List ℕ)) → Reads limits left now r done → after ≡ now
+    → TakesAtMost (most_taken limits) left after
+still-few limits left now after r done reads stays =
+    subst (λ (known : Option (List ℕ)). TakesAtMost (most_taken limits) left known) (sym stays)
+    (Reads-few limits reads)
+
+pub ask-few : {limits : Limits} {left now : Option (List ℕ)} {r : Reading} {done : List (List ℕ)}
+    (after : Option (List ℕ)) (new : Reading) (answer : Replayed) → Reads limits left now r done
+    → AskEnds limits r new now after answer → TakesAtMost (most_taken limits) left after
+ask-few {limits} {left} {now} {r} {done} after new Done reads finds =
+    still-few limits left now after r done reads finds.none_taken
+ask-few {limits} after new (BadLine number) reads finds = long-few limits reads finds
+ask-few {limits} after new TooManyLines reads finds = many-few limits reads finds
+ask-few after new (ClaimBroken claim) reads finds = absurd finds
+ask-few {limits} after new ReadFault reads finds = broken-few limits reads finds
+ask-few {limits} {left} {now} {r} {done} after new WriteFault reads stays =
+    still-few limits left now after r done reads stays
+ask-few {limits} after new NoMemory reads finds = lacks-few limits reads finds

@@ -1,5 +1,7 @@
 -- Bytes that are taken from a source, and stand after those that were at hand.
-use Rattle.std.proofs.Common.{◌≡◌, ℕ, ◌+◌, ◌<◌, ◌≤◌, List, [], ◌∷◌, ◌++◌, length, take, drop, get_or, None, Some, arith, refl, sym, ◌∙◌, ap, subst, append_assoc, add-one, drop-cons, length-take}
+use Rattle.std.proofs.Common.{◌≡◌, ℕ, ◌+◌, ◌<◌, ◌≤◌, List, [], ◌∷◌, ◌++◌, length, take, drop}
+use Rattle.std.proofs.Common.{get_or, None, Some, arith, refl, sym, ◌∙◌, ap, subst, append_assoc}
+use Rattle.std.proofs.Common.{add-one, drop-cons, length-take}
 use Rattle.std.proofs.lemmas.List.{append-nil, get_or-take}
 use Rattle.std.specs.Prelude.{IsNone}
 use Rattle.std.specs.declared.option.Option.{Option}
@@ -9,15 +11,19 @@ use Rattle.rv_base.proofs.Moved.{prepend_known-append}
 use Rattle.schedule_replay.specs.NextLine.{Took}
 
 -- in two goes
-pub Took-trans : (before between after : Option (List ℕ)) (old mid new : List ℕ) → Took before between old mid → Took between after mid new → Took before after old new
+pub Took-trans : (before between after : Option (List ℕ)) (old mid new : List ℕ)
+    → Took before between old mid → Took between after mid new → Took before after old new
 Took-trans before between after old mid new first then = record {
   front = first.front ++ then.front;
-  taken = first.taken ∙ (ap (prepend_known first.front) then.taken ∙ prepend_known-append first.front then.front after);
-  same = sym (append_assoc old first.front then.front) ∙ (ap (λ bytes. bytes ++ then.front) first.same ∙ then.same);
+  taken = first.taken ∙ (ap (prepend_known first.front) then.taken
+      ∙ prepend_known-append first.front then.front after);
+  same = sym (append_assoc old first.front then.front)
+      ∙ (ap (λ bytes. bytes ++ then.front) first.same ∙ then.same);
 }
 
 -- no bytes
-pub Took-none : (before after : Option (List ℕ)) (old : List ℕ) → after ≡ before → Took before after old old
+pub Took-none : (before after : Option (List ℕ)) (old : List ℕ) → after ≡ before
+    → Took before after old old
 Took-none before after old stays = record {
   front = [];
   taken = sym (prepend_known-nil before) ∙ ap (prepend_known []) (sym stays);
@@ -25,7 +31,8 @@ Took-none before after old stays = record {
 }
 
 -- behind further bytes
-pub Took-behind : (before after : Option (List ℕ)) (more old new : List ℕ) → Took before after old new → Took before after (more ++ old) (more ++ new)
+pub Took-behind : (before after : Option (List ℕ)) (more old new : List ℕ)
+    → Took before after old new → Took before after (more ++ old) (more ++ new)
 Took-behind before after more old new took = record {
   front = took.front;
   taken = took.taken;
@@ -37,18 +44,11 @@ both-empty [] ys e = (refl, e)
 both-empty (x ∷ xs) ys e = cc
 
 -- where nothing is at hand afterwards, nothing was before, and nothing was taken
-pub Took-nothing : (before after : Option (List ℕ)) (old new : List ℕ) → new ≡ [] → Took before after old new → (old ≡ []) × (before ≡ after)
+pub Took-nothing : (before after : Option (List ℕ)) (old new : List ℕ) → new ≡ []
+    → Took before after old new → (old ≡ []) × (before ≡ after)
 Took-nothing before after old new none took =
-    let empty = both-empty old took.front (took.same ∙ none) in
-    (empty.0, took.taken ∙ (ap (λ front. prepend_known front after) empty.1 ∙ prepend_known-nil after))
-
--- a source that doesn't tell its bytes didn't before
-pub Took-untold : (before after : Option (List ℕ)) (old new : List ℕ) → Took before after old new → IsNone after → IsNone before
-Took-untold before None old new took untold = subst IsNone (sym took.taken) refl
-Took-untold before (Some left) old new took untold = cc
-
--- the first of the bytes from one place to another, and the bytes after it
-pub between-cons : (buffer : List ℕ) (start end : ℕ) → start < end → end ≤ length buffer → drop start (take end buffer) ≡ get_or buffer start 0 ∷ drop (start + 1) (take end buffer)
-between-cons buffer start end some inside =
-    let within : start < length (take end buffer) = omega (arith, length-take end buffer) in
-    rw add-one (drop-cons (take end buffer) start 0 within) ∙ ap (λ b. b ∷ drop (start + 1) (take end buffer)) (get_or-take end buffer start 0 some)
+    let empty = both-empty old took.front (took.same ∙ none) in (
+      empty.0,
+      took.taken ∙ (ap (λ front. prepend_known front after) empty.1
+          ∙ prepend_known-nil after),
+    )

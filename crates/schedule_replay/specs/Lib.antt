@@ -1,11 +1,11 @@
+pub mod Limits
 pub mod Lines
 pub mod Reading
 pub mod NextLine
-pub mod Cutter
+pub mod AtHand
 pub mod EventLines
 pub mod RvTrace
 pub mod Play
-pub mod Scheduled
-pub mod Trace
+pub mod Played
 pub mod Replayed
 pub mod Turns

@@ -23,9 +23,12 @@ abbrev pub closed_lines : List ℕ → List (List ℕ)
 closed_lines [] = []
 closed_lines (b ∷ bs) = if b == 10 then [] ∷ closed_lines bs else into_line b (closed_lines bs)
 
+abbrev pub is_lf : ℕ → Bool
+is_lf b = b == 10
+
 -- Some byte is an LF.
 abbrev pub has_lf : List ℕ → Bool
-has_lf text = list_any (λ b. b == 10) text
+has_lf text = list_any is_lf text
 
 -- What follows the last LF of a text; all of the text where it has none.
 abbrev pub open_part : List ℕ → List ℕ

@@ -1,18 +1,16 @@
 -- How far a source's lines were read.
-use Rattle.std.specs.Prelude.{ℕ, List, [], Bool, true, false}
+use Rattle.std.specs.Prelude.{ℕ, List, [], Bool, false}
 
 pub record Reading : Type 0 where
   -- how many lines were got
   pub got : ℕ
   -- the bytes that were taken from the source past the last line got
   pub ahead : List ℕ
-  -- a call found the source at its end
+  -- the source was found at its end
   pub ended : Bool
-  -- no call answered anything but a line
-  pub live : Bool
   -- the last line got, without its LF
   pub text : List ℕ
 
 -- No line was asked for yet.
 abbrev pub nothing_read : Reading
-nothing_read = record { got = 0; ahead = []; ended = false; live = true; text = [] }
+nothing_read = record { got = 0; ahead = []; ended = false; text = [] }

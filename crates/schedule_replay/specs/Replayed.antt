@@ -1,29 +1,25 @@
 -- How a replay ends, what it has taken of the schedule by then, and what it has written.
-use Rattle.std.specs.Prelude.{◌≡◌, ◌≤◌, ◌<◌, ℕ, ◌+◌, ◌-◌, min, List, [], ◌++◌, length, take, Some, get_or}
+use Rattle.std.specs.Prelude.{◌≡◌, ◌≤◌, ◌<◌, ℕ, ◌+◌, ◌-◌, zero, suc, min, Bool, true, false, List}
+use Rattle.std.specs.Prelude.{[], ◌++◌, length, take, Some, get_or}
 use Rattle.std.specs.declared.option.Option.{Option}
 use Rattle.rv_base.specs.Outside.{Rose}
 use Rattle.schedule_replay.specs.Lines.{lines_of, closed_lines, open_part, joined}
 use Rattle.schedule_replay.specs.Play.{Play}
-use Rattle.schedule_replay.specs.Scheduled.{Whole, AtLine, TooMany, scheduled_lines, scheduled}
-use Rattle.schedule_replay.specs.Trace.{blocks, trace}
+use Rattle.schedule_replay.specs.Played.{Stop, Whole, AtLine, TooMany, Halted, played, played_from}
+use Rattle.schedule_replay.specs.Played.{trace}
+use Rattle.schedule_replay.specs.declared.limits.Limits.{Limits}
 use Rattle.schedule_replay.specs.declared.replaying.Replayed.{Replayed}
-use Rattle.schedule_replay.specs.declared.replaying.Replayed.TheVariants.{Done, BadLine, TooManyLines, ReadFault, WriteFault, NoMemory}
+use Rattle.schedule_replay.specs.declared.replaying.Replayed.TheVariants.{Done, BadLine}
+use Rattle.schedule_replay.specs.declared.replaying.Replayed.TheVariants.{TooManyLines, ClaimBroken}
+use Rattle.schedule_replay.specs.declared.replaying.Replayed.TheVariants.{ReadFault, WriteFault}
+use Rattle.schedule_replay.specs.declared.replaying.Replayed.TheVariants.{NoMemory}
 
--- How many bytes of a text there are up to the one that shows that the line with this number, counted
--- from 1, is refused, with that byte: it is the line's LF, or its byte 257 where the line has more
--- than 256 bytes.
-abbrev pub line_decides : ℕ → List ℕ → ℕ
-line_decides number text =
-    length (joined (take (number - 1) (lines_of text))) + (min 256 (length (get_or (lines_of text) (number - 1) [])) + 1)
-
--- How many bytes of a text there are up to the first one of line 1,000,001, with that byte.
-abbrev pub count_decides : List ℕ → ℕ
-count_decides text = length (joined (take 1000000 (lines_of text))) + 1
-
--- At most 255 bytes past the deciding one were taken, and all bytes where there is no such byte.
-abbrev pub TakesFew : ℕ → List ℕ → Option (List ℕ) → Type 0
-TakesFew deciding text left =
-    (taken : List ℕ) × (rest : List ℕ) × (text ≡ taken ++ rest) × (left ≡ Some rest) × (length taken ≤ deciding + 255) × (length text < deciding → rest ≡ [])
+-- The answer of a replay that comes to where the schedule ends.
+abbrev pub answer_of : Stop → Replayed
+answer_of Whole = Done
+answer_of (AtLine number) = BadLine number
+answer_of TooMany = TooManyLines
+answer_of (Halted lines claim) = ClaimBroken claim
 
 -- What follows the text that was written before.
 abbrev pub Wrote : List ℕ → List ℕ → Option (List ℕ) → Type 0
@@ -32,47 +28,124 @@ Wrote before text now = now ≡ Some (before ++ text)
 abbrev pub WroteFront : List ℕ → List ℕ → Option (List ℕ) → Type 0
 WroteFront before text now = (count : ℕ) × Wrote before (take count text) now
 
-module _ {State Item : Type 0} (play : Play State Item) where
-  -- These bytes show no line that is refused: they hold no LF of a malformed line, no byte 257 of a
-  -- line and no byte of line 1,000,001.
-  abbrev pub NothingRefused : List ℕ → Type 0
-  NothingRefused taken =
-      ((scheduled_lines play.says 0 (closed_lines taken)).stop ≡ Whole) × (length (open_part taken) ≤ 256)
-      × (length (closed_lines taken) ≡ 1000000 → open_part taken ≡ [])
+-- At most 255 bytes past the deciding one were taken, and all bytes where there is no such byte.
+abbrev pub TakesFew : ℕ → List ℕ → Option (List ℕ) → Type 0
+TakesFew deciding text left =
+    (taken : List ℕ) × (rest : List ℕ) × (text ≡ taken ++ rest) × (left ≡ Some rest)
+    × (length taken ≤ deciding + 255) × (length text < deciding → rest ≡ [])
+
+module _ (limits : Limits) where
+  -- How many bytes of a text there are up to the one that decides over the line with this number,
+  -- counted from 1, with that byte: it is the line's LF, or the first byte past those that a line
+  -- may have.
+  abbrev pub line_decides : ℕ → List ℕ → ℕ
+  line_decides number text =
+      length (joined (take (number - 1) (lines_of text)))
+      + (min limits.line (length (get_or (lines_of text) (number - 1) [])) + 1)
+
+  -- How many bytes of a text there are up to the first one past as many lines as a schedule may
+  -- have, with that byte.
+  abbrev pub count_decides : List ℕ → ℕ
+  count_decides text = length (joined (take limits.lines (lines_of text))) + 1
+
+  -- What is left of a text where its schedule ends: nothing at its end; few bytes past the deciding
+  -- one were taken where a line is refused, or is one too many, or where the machine halts after a
+  -- line; none was taken where it halts before the first.
+  abbrev pub LeavesAt : Stop → List ℕ → Option (List ℕ) → Type 0
+  LeavesAt Whole text left = left ≡ Some []
+  LeavesAt (AtLine number) text left = TakesFew (line_decides number text) text left
+  LeavesAt TooMany text left = TakesFew (count_decides text) text left
+  LeavesAt (Halted zero claim) text left = left ≡ Some text
+  LeavesAt (Halted (suc lines) claim) text left = TakesFew (line_decides (suc lines) text) text left
+
+module _ {State Item : Type 0} (play : Play State Item) (limits : Limits) (start : State) where
+  -- These bytes show no line at which the schedule ends: they hold no LF of a malformed line or of
+  -- one after which the machine halts, no byte of a line past those that it may have, and no byte
+  -- past as many lines as there may be. Nor does the machine halt before the first line.
+  abbrev pub NothingStops : List ℕ → Type 0
+  NothingStops taken =
+      ((played_from play limits start (closed_lines taken)).stop ≡ Whole)
+      × (length (open_part taken) ≤ limits.line)
+      × (length (closed_lines taken) ≡ limits.lines → open_part taken ≡ [])
 
   -- the blocks of the lines whose LF is among these bytes
-  abbrev pub blocks_taken : State → List ℕ → List ℕ
-  blocks_taken start taken = blocks play 0 start (scheduled_lines play.says 0 (closed_lines taken)).items
+  abbrev pub blocks_taken : List ℕ → List ℕ
+  blocks_taken taken = (played_from play limits start (closed_lines taken)).blocks
 
-  -- The answer, and what is left of the schedule, whose bytes were told. Done: all of it was played and
-  -- nothing is left. A refused line, or a line too many: it is the one at which the schedule ends, and
-  -- few bytes past it were taken. A read fault: nothing that was taken shows a line that is refused.
+  -- The bytes that were taken before a read fault: nothing that was taken shows where the schedule
+  -- ends.
+  abbrev pub BreaksOff : List ℕ → Option (List ℕ) → List ℕ → Type 0
+  BreaksOff text left taken =
+      ((rest : List ℕ) × (text ≡ taken ++ rest) × (left ≡ Some rest)) × NothingStops taken
+
+  -- The answer is that of where the schedule ends, and what is left of it is what is left there.
+  abbrev pub Decides : List ℕ → Option (List ℕ) → Replayed → Type 0
+  Decides text left result =
+      (result ≡ answer_of (played play limits start text).stop)
+      × LeavesAt limits (played play limits start text).stop text left
+
+  -- The answer, and what is left of the schedule, whose bytes were told.
   abbrev pub StopsSo : List ℕ → Option (List ℕ) → Replayed → Type 0
-  StopsSo text left Done = ((scheduled play.says text).stop ≡ Whole) × (left ≡ Some [])
-  StopsSo text left (BadLine number) = ((scheduled play.says text).stop ≡ AtLine number) × TakesFew (line_decides number text) text left
-  StopsSo text left TooManyLines = ((scheduled play.says text).stop ≡ TooMany) × TakesFew (count_decides text) text left
-  StopsSo text left ReadFault = (taken : List ℕ) × (rest : List ℕ) × (text ≡ taken ++ rest) × (left ≡ Some rest) × NothingRefused taken
+  StopsSo text left Done = Decides text left Done
+  StopsSo text left (BadLine number) = Decides text left (BadLine number)
+  StopsSo text left TooManyLines = Decides text left TooManyLines
+  StopsSo text left (ClaimBroken claim) = Decides text left (ClaimBroken claim)
+  StopsSo text left ReadFault = (taken : List ℕ) × BreaksOff text left taken
   StopsSo text left WriteFault = Unit {0}
   StopsSo text left NoMemory = Unit {0}
 
-  -- The answer, and what was written, where the bytes of the schedule and of the sink were told. After
-  -- a read fault exactly the blocks of the lines whose LF was taken are written; after a write fault or
-  -- want of memory a front of what would have been written.
-  abbrev pub WritesSo : State → List ℕ → Option (List ℕ) → List ℕ → Option (List ℕ) → Replayed → Type 0
-  WritesSo start text left before now Done = Wrote before (trace play start text) now
-  WritesSo start text left before now (BadLine number) = Wrote before (trace play start text) now
-  WritesSo start text left before now TooManyLines = Wrote before (trace play start text) now
-  WritesSo start text left before now ReadFault =
-      (taken : List ℕ) × (rest : List ℕ) × (text ≡ taken ++ rest) × (left ≡ Some rest) × NothingRefused taken × Wrote before (blocks_taken start taken) now
-  WritesSo start text left before now WriteFault = WroteFront before (trace play start text) now
-  WritesSo start text left before now NoMemory = WroteFront before (trace play start text) now
+  -- The answer, and what was written, where the bytes of the schedule and of the sink were told.
+  -- After a read fault exactly the blocks of the lines whose LF was taken are written; after a
+  -- write fault or want of memory a front of what would have been written.
+  abbrev pub WritesSo : List ℕ → Option (List ℕ) → List ℕ → Option (List ℕ) → Replayed → Type 0
+  WritesSo text left before now Done = Wrote before (trace play limits start text) now
+  WritesSo text left before now (BadLine number) = Wrote before (trace play limits start text) now
+  WritesSo text left before now TooManyLines = Wrote before (trace play limits start text) now
+  WritesSo text left before now (ClaimBroken claim) =
+      Wrote before (trace play limits start text) now
+  WritesSo text left before now ReadFault =
+      (taken : List ℕ) × BreaksOff text left taken × Wrote before (blocks_taken taken) now
+  WritesSo text left before now WriteFault = WroteFront before (trace play limits start text) now
+  WritesSo text left before now NoMemory = WroteFront before (trace play limits start text) now
 
--- The counts of faults of the schedule and of the sink, before and after: the one rose where reading
--- failed, the other where writing failed, and each stays at every other answer.
+-- A read failed.
+abbrev pub is_read_fault : Replayed → Bool
+is_read_fault Done = false
+is_read_fault (BadLine number) = false
+is_read_fault TooManyLines = false
+is_read_fault (ClaimBroken claim) = false
+is_read_fault ReadFault = true
+is_read_fault WriteFault = false
+is_read_fault NoMemory = false
+
+-- A write failed.
+abbrev pub is_write_fault : Replayed → Bool
+is_write_fault Done = false
+is_write_fault (BadLine number) = false
+is_write_fault TooManyLines = false
+is_write_fault (ClaimBroken claim) = false
+is_write_fault ReadFault = false
+is_write_fault WriteFault = true
+is_write_fault NoMemory = false
+
+-- The replay came to where the schedule ends.
+abbrev pub is_decided : Replayed → Bool
+is_decided Done = true
+is_decided (BadLine number) = true
+is_decided TooManyLines = true
+is_decided (ClaimBroken claim) = true
+is_decided ReadFault = false
+is_decided WriteFault = false
+is_decided NoMemory = false
+
+-- A count before and after: it rose where this is so, and else it stays.
+abbrev pub RisesWhere : Bool → ℕ → ℕ → Type 0
+RisesWhere true before now = (before ≤ now) × Rose before now
+RisesWhere false before now = now ≡ before
+
+-- The counts of faults of the schedule and of the sink, before and after: the one rose where
+-- reading failed, the other where writing failed, and each stays at every other answer.
 abbrev pub ReplayCounts : ℕ → ℕ → ℕ → ℕ → Replayed → Type 0
-ReplayCounts read_before read_now write_before write_now ReadFault = (read_before ≤ read_now) × Rose read_before read_now × (write_now ≡ write_before)
-ReplayCounts read_before read_now write_before write_now WriteFault = (write_before ≤ write_now) × Rose write_before write_now × (read_now ≡ read_before)
-ReplayCounts read_before read_now write_before write_now Done = (read_now ≡ read_before) × (write_now ≡ write_before)
-ReplayCounts read_before read_now write_before write_now (BadLine number) = (read_now ≡ read_before) × (write_now ≡ write_before)
-ReplayCounts read_before read_now write_before write_now TooManyLines = (read_now ≡ read_before) × (write_now ≡ write_before)
-ReplayCounts read_before read_now write_before write_now NoMemory = (read_now ≡ read_before) × (write_now ≡ write_before)
+ReplayCounts read_before read_now write_before write_now result =
+    RisesWhere (is_read_fault result) read_before read_now
+    × RisesWhere (is_write_fault result) write_before write_now

@@ -1,10 +1,13 @@
--- The trace of a schedule of events: what the rendezvous meaning of a protocol does at each of them.
+-- The trace of a schedule of events: what the rendezvous meaning of a protocol does at each of
+-- them.
 --
--- The block of an event is its number, one space, the event, and `: moved` or `: refused`. Where it moved,
--- the rendezvous line of the home follows for every event but TauRemote, and then that of the remote that
--- the event names for every event but TauHome. After the last block come the line `end` and all rendezvous
--- lines, the home's first. All of these lines show the configuration after the event.
-use Rattle.std.specs.Prelude.{ℕ, ◌+◌, Bool, true, false, List, [], ◌∷◌, ◌++◌, Some, None, is_some, unwrap_or, slice_get, codes}
+-- The block of an event is its number, one space, the event, and `: moved` or `: refused`. Where it
+-- moved, the rendezvous line of the home follows for every event but TauRemote, and then that of
+-- the remote that the event names for every event but TauHome. After the last block come the line
+-- `end` and all rendezvous lines, the home's first. All of these lines show the configuration after
+-- the event.
+use Rattle.std.specs.Prelude.{ℕ, ◌+◌, Bool, true, false, List, [], ◌∷◌, ◌++◌, Option, Some, None}
+use Rattle.std.specs.Prelude.{is_some, unwrap_or, slice_get, codes}
 use Rattle.std.specs.Option.{option_map_or}
 use Rattle.proto_model.specs.Tokens.{Text}
 use Rattle.proto_model.specs.Numbered.{NumberedProtocol}
@@ -18,8 +21,8 @@ use Rattle.proto_model.specs.declared.rendezvous.Event.TheVariants as event
 use Rattle.rendezvous_meaning.specs.Standing.{Standing}
 use Rattle.schedule_replay.specs.EventLines.{event_line}
 use Rattle.schedule_replay.specs.Play.{Play}
-use Rattle.schedule_replay.specs.Scheduled.{Scheduled, scheduled}
-use Rattle.schedule_replay.specs.Trace.{trace}
+use Rattle.schedule_replay.specs.Limits.{schedule_limits}
+use Rattle.schedule_replay.specs.Played.{Played, played, trace}
 use Rattle.schedule_replay.specs.declared.events.EventLine.{EventLine}
 use Rattle.schedule_replay.specs.declared.events.EventLine.TheVariants as line
 use Rattle.schedule_replay.specs.declared.player.Meaning.{Meaning}
@@ -52,19 +55,21 @@ home_line standing = rv_line standing.protocol.home standing.config.home None
 -- the rendezvous line of remote j; no text where there is no such remote
 abbrev pub remote_line : Standing → ℕ → Text
 remote_line standing j =
-    option_map_or (λ part. rv_line standing.protocol.remote part (Some j)) (slice_get standing.config.remotes j) []
+    option_map_or (λ part. rv_line standing.protocol.remote part (Some j))
+    (slice_get standing.config.remotes j) []
 
 -- the rendezvous lines of remotes that are numbered from j on
 abbrev pub remote_lines_from : Body → ℕ → List Part → Text
 remote_lines_from body j [] = []
-remote_lines_from body j (part ∷ parts) = rv_line body part (Some j) ++ remote_lines_from body (j + 1) parts
+remote_lines_from body j (part ∷ parts) =
+    rv_line body part (Some j) ++ remote_lines_from body (j + 1) parts
 
 -- the rendezvous lines of all remotes, in the order of their numbers
 abbrev pub remote_lines : Standing → Text
 remote_lines standing = remote_lines_from standing.protocol.remote 0 standing.config.remotes
 
--- the lines that follow an event that moved: of the home unless only a remote moved, and of the remote
--- that the event names, if it names one
+-- the lines that follow an event that moved: of the home unless only a remote moved, and of the
+-- remote that the event names, if it names one
 abbrev pub lines_after : Standing → Event → Text
 lines_after standing (event.TauHome g) = home_line standing
 lines_after standing (event.TauRemote j g) = remote_line standing j
@@ -84,18 +89,28 @@ block standing e = event_text e ++ told (moves standing e) (after standing e) e
 abbrev pub ending : Standing → Text
 ending standing = codes "end\n" ++ (home_line standing ++ remote_lines standing)
 
+-- No claim is broken in any configuration.
+abbrev pub halts : Standing → Option ℕ
+halts standing = None
+
 -- how a schedule of events is played on the rendezvous meaning
 abbrev pub rv_play : Play Standing Event
-rv_play = record { says = meaning_of_line; after = after; block = block; ending = ending }
+rv_play = record {
+  says = meaning_of_line;
+  after = after;
+  block = block;
+  ending = ending;
+  halts = halts;
+}
 
 -- the protocol with n remotes at the start
 abbrev pub rv_standing : NumberedProtocol → ℕ → Standing
 rv_standing protocol n = record { protocol = protocol; config = rv_start protocol n }
 
--- the events of a schedule, and where it ends
-abbrev pub rv_schedule : List ℕ → Scheduled Event
-rv_schedule text = scheduled meaning_of_line text
+-- a schedule of events, played on the protocol with n remotes
+abbrev pub rv_played : NumberedProtocol → ℕ → List ℕ → Played Standing
+rv_played protocol n text = played rv_play schedule_limits (rv_standing protocol n) text
 
 -- the trace of a schedule on the protocol with n remotes
 abbrev pub rv_text : NumberedProtocol → ℕ → List ℕ → Text
-rv_text protocol n text = trace rv_play (rv_standing protocol n) text
+rv_text protocol n text = trace rv_play schedule_limits (rv_standing protocol n) text

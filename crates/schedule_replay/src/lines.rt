@@ -1,106 +1,325 @@
 //! The lines of a source, one at a time.
 
-mod cutter;
+ghost use Rattle.std.specs.Prelude.{◌≡◌, ◌≤◌, ◌<◌, ◌^◌, [], ◌++◌, length, take, drop, true};
+ghost use Rattle.std.specs.Prelude.{OnOk, OnErr};
+ghost use Rattle.std.specs.List.{position};
+ghost use Rattle.schedule_replay.specs.Lines.{HasNoLf, is_lf};
 
-use crate::lines::cutter::Cutter;
-use rv_base::Source;
-use std::marker::Model;
+use crate::limits::Limits;
+use rv_base::{NoMemory, ReadAnswer, Source};
+use std::alloc::Global;
 
-/// The most bytes that a line may have, without its LF.
-pub const LINE_LIMIT: usize = 256;
-
-/// The most lines that are read.
-pub const LINES_LIMIT: u32 = 1_000_000;
+const LF: u8 = b'\n';
 
 /// What asking for the next line answers.
 #[derive(Clone, Copy, Debug, PartialEq, Eq)]
-pub enum NextLine {
+pub(crate) enum NextLine {
     /// The line with this number was got. Lines are numbered from 1.
     Got(u32),
     /// No byte follows the last line, and the source is at its end.
     End,
-    /// The line with this number, one of the first `LINES_LIMIT`, has more than `LINE_LIMIT` bytes.
+    /// The line with this number, one of as many as there may be, is longer than a line may be.
     TooLong(u32),
-    /// A byte follows the first `LINES_LIMIT` lines.
+    /// A byte follows as many lines as there may be.
     TooMany,
     /// A read failed, and the source counted the fault.
     ReadFault,
-    /// The source had no memory for a read. One that tells its bytes never answers so.
+    /// There is no memory for the line, or the source had none for a read.
     NoMemory,
 }
 
-/// Reads the lines of a source, one at a time. An LF ends a line; bytes after the last LF are a last
-/// line. No more than one line and one piece of the source are kept, and no memory is taken.
-///
-/// Contracts see how many lines were got, the bytes that were taken past the last of them, whether
-/// the source was found at its end, whether a further line may be asked for, and the last line.
-#[derive(Drop)]
-pub struct Lines {
-    cutter: Cutter,
+// What a read of one piece gave.
+#[derive(Clone, Copy)]
+enum Filled {
+    Ready,
+    End,
+    Failed,
+    NoMemory,
 }
 
-impl Model for Lines {
-    ghost use Rattle.std.specs.Prelude.{◌≡◌, true, false};
-    ghost use Rattle.schedule_replay.specs.Reading.{Reading};
-    ghost use Rattle.schedule_replay.specs.Cutter.{reading_of};
+/// Reads the lines of a source, one at a time. An LF ends a line; bytes after the last LF are a
+/// last line. No more than one line and one piece of the source are kept. A line that lies whole in
+/// the piece is handed out from there.
+#[derive(Drop)]
+pub(crate) struct Lines {
+    limits: Limits,
+    // The bytes of the piece from `start` to `end` are pending: they were taken and are not worked
+    // off.
+    piece: [u8; 256],
+    start: usize,
+    end: usize,
+    // Bytes of earlier pieces: where `partial`, those of a line that is not got yet, and else,
+    // where `joined`, the last line got. Where neither, it stands in the piece, between `from` and
+    // `to`.
+    part: Vec<u8>,
+    partial: bool,
+    joined: bool,
+    from: usize,
+    to: usize,
+    got: u32,
+    ended: bool,
+    ghost small: { limits.line < 2 ^ 32 },
+    ghost countable: { limits.lines < 2 ^ 32 },
+    ghost in_order: { start ≤ end },
+    ghost within: { end ≤ 256 },
+    ghost room: { length piece ≡ 256 },
+    ghost apart: { from ≤ to },
+    ghost inside: { to ≤ 256 },
+    ghost counted: { got ≤ limits.lines },
+    ghost one_line: { partial ≡ true → HasNoLf part.items },
+    ghost fits: { partial ≡ true → length part.items ≤ limits.line },
+    ghost none_past: { partial ≡ true → got ≡ limits.lines → part.items ≡ [] },
+    ghost none_pending: { ended ≡ true → start ≡ end },
+    ghost none_begun: { partial ≡ true → ended ≡ true → part.items ≡ [] },
+}
 
-    ghost Value = { Reading };
+// The place of the first LF, if there is one.
+fn line_end(bytes: &[u8]) -> Option<usize>
+    ensures { result ≡ position is_lf bytes.now }
+{
+    bytes.iter().position(|byte| *byte == LF)
+}
 
-    ghost view = { λ s. reading_of s.cutter };
-
-    ghost invariant = { λ s. s.cutter.live ≡ true → s.cutter.partial ≡ false };
+// Appends the bytes of the piece between these places.
+fn append(part: &mut Vec<u8>, piece: &[u8], from: usize, to: usize) -> Result<(), NoMemory>
+    requires apart { from ≤ to }
+    requires inside { to ≤ length piece.now }
+    ensures ok { OnOk result (part.new.items ≡ part.old.items ++ drop from (take to piece.now)) }
+    ensures err { OnErr result (part.new.items ≡ part.old.items) }
+{
+    part.extend_from_slice(&piece[from..to])?;
+    Ok(())
 }
 
 impl Lines {
-    ghost use Rattle.std.specs.Prelude.{◌≡◌, [], ◌++◌, true, false, IfSome};
+    ghost use Rattle.std.specs.Prelude.{Some, None, false, List, ℕ};
+    ghost use Rattle.std.specs.declared.option.Option.{Option};
+    ghost use Rattle.std.specs.Io.KnownBytes.{IsAtEnd};
     ghost use Rattle.schedule_replay.specs.Reading.{nothing_read};
-    ghost use Rattle.schedule_replay.specs.NextLine.{NextMoves, NextCounts, StaysLive, SaysLine};
+    ghost use Rattle.schedule_replay.specs.NextLine.{NextMoves, is_fault};
+    ghost use Rattle.schedule_replay.specs.Replayed.{RisesWhere};
+    ghost use Rattle.schedule_replay.specs.AtHand.{pending, text_of, reading_of};
+    ghost use Rattle.schedule_replay.specs.AtHand.{SameCount, Opens, Holds, HandMoves, SameLine};
+    ghost use Rattle.schedule_replay.specs.AtHand.{FillMoves};
+    ghost use Rattle.schedule_replay.specs.AtHand.{is_failed, is_end, TurnMoves, TurnCounts};
 
     /// Stands before line 1. Takes no memory.
-    pub fn new() -> Lines
-        ensures { result ≡ nothing_read }
+    pub(crate) fn new(alloc: Global, limits: Limits) -> Lines
+        requires { limits.line < 2 ^ 32 }
+        ensures reading { reading_of result ≡ nothing_read }
+        ensures limits { result.limits ≡ limits }
     {
         Lines {
-            cutter: Cutter::new(),
+            limits,
+            piece: [0; 256],
+            start: 0,
+            end: 0,
+            part: Vec::new(alloc),
+            partial: true,
+            joined: false,
+            from: 0,
+            to: 0,
+            got: 0,
+            ended: false,
         }
     }
 
-    /// Whether a further line may be asked for: from `new` on until `next` answers anything but
-    /// `Got`.
-    pub fn live(&self) -> bool
-        ensures { result ≡ self.now.live }
+    /// The last line got, without its LF. Empty before line 1, and after a call that didn't give
+    /// one.
+    pub(crate) fn text(&self) -> &[u8]
+        ensures { result.now ≡ text_of self.now }
     {
-        self.cutter.live()
+        if self.partial {
+            return &[];
+        }
+        if self.joined {
+            return self.part.as_slice();
+        }
+        &self.piece[self.from..self.to]
     }
 
-    /// The last line got, without its LF. Empty before line 1, and after a call that took bytes of a
-    /// line and didn't give it.
-    pub fn text(&self) -> &[u8]
-        ensures { result.now ≡ self.now.text }
+    // Lets the last line got go.
+    fn open(&mut self)
+        ensures { Opens self.old self.new }
     {
-        self.cutter.text()
+        if !self.partial {
+            self.part.clear();
+            self.partial = true;
+        }
     }
 
-    /// Gets the next line of the source, or says why there is none. The line is the first one of the
-    /// bytes taken past the last line, followed by those left in the source. Where an earlier call
-    /// found the source at its end, it isn't read again.
-    pub fn next<Q: Source>(&mut self, source: &mut Q) -> NextLine
-        requires { self.old.live ≡ true }
-        ensures moves { NextMoves self.old self.new (Q.left source.old) (Q.left source.new) result }
-        ensures says { self.old.ended ≡ false → IfSome (Q.left source.old) (λ left. SaysLine self.old.got (self.old.ahead ++ left) self.new.text result) }
-        ensures rests { self.old.ended ≡ true → (result ≡ NextLine.End) × (source.new ≡ source.old) }
-        ensures live { StaysLive self.new result }
-        ensures cause { NextCounts (Q.faults source.old) (Q.faults source.new) result }
+    // Holds the line at hand, whose last bytes stand in the piece before this place.
+    fn hold(&mut self, end: usize) -> Result<(), NoMemory>
+        requires partial { self.old.partial ≡ true }
+        requires in_order { self.old.start ≤ end }
+        requires within { end ≤ self.old.end }
+        ensures count { SameCount self.old self.new }
+        ensures line { OnOk result (Holds self.old self.new end) }
     {
-        self.cutter.next(source)
+        self.from = self.start;
+        self.to = end;
+        self.joined = !self.part.is_empty();
+        if self.joined {
+            append(&mut self.part, &self.piece, self.start, end)?;
+        }
+        self.partial = false;
+        Ok(())
+    }
+
+    // Gives the line at hand, whose LF stands so many bytes behind the first one that is pending.
+    fn close(&mut self, length: usize) -> NextLine
+        requires partial { self.old.partial ≡ true }
+        requires few { self.old.got < self.old.limits.lines }
+        requires ends { position is_lf (pending self.old) ≡ Some length }
+        ensures { HandMoves self.old self.new (Some result) }
+    {
+        if self.part.len() + length > self.limits.line {
+            return NextLine::TooLong(self.got + 1);
+        }
+        let end = self.start + length;
+        if self.hold(end).is_err() {
+            return NextLine::NoMemory;
+        }
+        self.start = end + 1;
+        self.got += 1;
+        NextLine::Got(self.got)
+    }
+
+    // Keeps the pending bytes, none of which is an LF.
+    fn carry(&mut self) -> Option<NextLine>
+        requires partial { self.old.partial ≡ true }
+        requires few { self.old.got < self.old.limits.lines }
+        requires some { self.old.start < self.old.end }
+        requires no_lf { position is_lf (pending self.old) ≡ None }
+        ensures { HandMoves self.old self.new result }
+    {
+        if self.part.len() + (self.end - self.start) > self.limits.line {
+            return Some(NextLine::TooLong(self.got + 1));
+        }
+        if append(&mut self.part, &self.piece, self.start, self.end).is_err() {
+            return Some(NextLine::NoMemory);
+        }
+        self.start = self.end;
+        None
+    }
+
+    /// Gets the next line, or says why there is none, where the bytes taken so far decide that.
+    /// `None` where they don't: then `read` goes on.
+    pub(crate) fn at_hand(&mut self) -> Option<NextLine>
+        ensures { HandMoves self.old self.new result }
+    {
+        self.open();
+        if self.start == self.end {
+            return None;
+        }
+        if self.got == self.limits.lines {
+            return Some(NextLine::TooMany);
+        }
+        match line_end(&self.piece[self.start..self.end]) {
+            Some(length) => Some(self.close(length)),
+            None => self.carry(),
+        }
+    }
+
+    // Reads one piece.
+    fn fill<Q: Source>(&mut self, source: &mut Q) -> Filled
+        requires goes { self.old.ended ≡ false }
+        requires partial { self.old.partial ≡ true }
+        requires spent { self.old.start ≡ self.old.end }
+        ensures kept { SameLine self.old self.new }
+        ensures bytes { FillMoves self.old self.new (Q.left source.old) (Q.left source.new) result }
+        ensures cause { RisesWhere (is_failed result) (Q.faults source.old) (Q.faults source.new) }
+        ensures ends { Q.ended source.new ≡ is_end result }
+    {
+        match source.read(&mut self.piece) {
+            ReadAnswer::Got(count) => {
+                self.start = 0;
+                self.end = count;
+                Filled::Ready
+            }
+            ReadAnswer::End => Filled::End,
+            ReadAnswer::Failed => Filled::Failed,
+            ReadAnswer::NoMemory => Filled::NoMemory,
+        }
+    }
+
+    // Gives the last line, or says that there is none, where the source is at its end.
+    fn finish(&mut self) -> NextLine
+        requires goes { self.old.ended ≡ false }
+        requires partial { self.old.partial ≡ true }
+        requires spent { self.old.start ≡ self.old.end }
+        ensures quiet { is_fault result ≡ false }
+        ensures moves { (known : Option (List ℕ)) → IsAtEnd known
+            → (self.new.limits ≡ self.old.limits) × NextMoves self.old.limits
+            (reading_of self.old) (reading_of self.new) known known result }
+    {
+        self.ended = true;
+        if self.part.is_empty() {
+            return NextLine::End;
+        }
+        self.joined = true;
+        self.partial = false;
+        self.got += 1;
+        NextLine::Got(self.got)
+    }
+
+    // Reads one piece, and gets the next line where that decides it.
+    fn turn<Q: Source>(&mut self, source: &mut Q) -> Option<NextLine>
+        requires goes { self.old.ended ≡ false }
+        requires partial { self.old.partial ≡ true }
+        requires spent { self.old.start ≡ self.old.end }
+        ensures moves { TurnMoves self.old self.new (Q.left source.old) (Q.left source.new) result }
+        ensures cause { TurnCounts (Q.faults source.old) (Q.faults source.new) result }
+        ensures ends { self.new.ended ≡ true → Q.ended source.new ≡ true }
+    {
+        match self.fill(source) {
+            Filled::Ready => self.at_hand(),
+            Filled::End => Some(self.finish()),
+            Filled::Failed => Some(NextLine::ReadFault),
+            Filled::NoMemory => Some(NextLine::NoMemory),
+        }
+    }
+
+    /// Gets the next line of the source, or says why there is none, where the bytes taken so far
+    /// don't decide that. Where an earlier call found the source at its end, it isn't read again.
+    pub(crate) fn read<Q: Source>(&mut self, source: &mut Q) -> NextLine
+        requires partial { self.old.partial ≡ true }
+        requires spent { self.old.start ≡ self.old.end }
+        requires ended { self.old.ended ≡ true → Q.ended source.old ≡ true }
+        ensures limits { self.new.limits ≡ self.old.limits }
+        ensures moves { NextMoves self.old.limits (reading_of self.old) (reading_of self.new)
+            (Q.left source.old) (Q.left source.new) result }
+        ensures cause { RisesWhere (is_fault result) (Q.faults source.old) (Q.faults source.new) }
+        ensures ends { self.new.ended ≡ true → Q.ended source.new ≡ true }
+    {
+        if self.ended {
+            return NextLine::End;
+        }
+        loop {
+            if let Some(answer) = self.turn(source) {
+                return answer;
+            }
+        }
     }
 }
 
 #[cfg(test)]
 mod tests {
     use super::*;
+    use crate::limits::SCHEDULE_LIMITS;
     use rv_base::{MemorySource, SteadySource};
     use std::test::Fail;
+
+    // Asks for the next line.
+    fn next<Q: Source>(lines: &mut Lines, source: &mut Q) -> NextLine
+        requires { lines.old.ended ≡ true → Q.ended source.old ≡ true }
+        ensures { lines.new.ended ≡ true → Q.ended source.new ≡ true }
+    {
+        match lines.at_hand() {
+            Some(answer) => answer,
+            None => lines.read(source),
+        }
+    }
 
     #[test]
     fn a_line_has_at_most_256_bytes_whatever_pieces_come(rt: HostRuntime) -> Result<(), Fail> {
@@ -110,17 +329,17 @@ mod tests {
             text.extend_from_slice(b"\nlast")?;
             for most in [1, 7, 4_096] {
                 let mut source = SteadySource::new(rt.alloc(), &text, most)?;
-                let mut lines = Lines::new();
-                assert_eq!(rt; lines.next(&mut source), NextLine::Got(1));
+                let mut lines = Lines::new(rt.alloc(), SCHEDULE_LIMITS);
+                assert_eq!(rt; next(&mut lines, &mut source), NextLine::Got(1));
                 assert!(rt; lines.text().is_empty());
-                assert_eq!(rt; lines.next(&mut source), answer);
-                if !lines.live() {
+                assert_eq!(rt; next(&mut lines, &mut source), answer);
+                if length > 256 {
                     continue;
                 }
                 assert_eq!(rt; lines.text().len(), 256);
-                assert_eq!(rt; lines.next(&mut source), NextLine::Got(3));
-                assert_eq!(rt; lines.next(&mut source), NextLine::End);
+                assert_eq!(rt; next(&mut lines, &mut source), NextLine::Got(3));
                 assert_eq!(rt; lines.text(), b"last".as_slice());
+                assert_eq!(rt; next(&mut lines, &mut source), NextLine::End);
             }
         }
         Ok(())
@@ -129,11 +348,10 @@ mod tests {
     #[test]
     fn a_fault_in_a_line_gives_no_line(rt: HostRuntime) -> Result<(), Fail> {
         let mut source = MemorySource::new(rt.alloc(), b"ab\ncd\n", 2, &[3])?;
-        let mut lines = Lines::new();
-        assert_eq!(rt; lines.next(&mut source), NextLine::Got(1));
+        let mut lines = Lines::new(rt.alloc(), SCHEDULE_LIMITS);
+        assert_eq!(rt; next(&mut lines, &mut source), NextLine::Got(1));
         assert_eq!(rt; lines.text(), b"ab".as_slice());
-        assert_eq!(rt; lines.next(&mut source), NextLine::ReadFault);
-        assert!(rt; !lines.live());
+        assert_eq!(rt; next(&mut lines, &mut source), NextLine::ReadFault);
         Ok(())
     }
 }

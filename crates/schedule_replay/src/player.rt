@@ -29,11 +29,15 @@ pub trait Player {
     fn read(&self, line: &[u8]) -> Meaning<Self::Item>
         ensures { result ≡ play.says line.now };
 
-    /// Plays an item, and appends what tells of it, without its number. Nothing is known of what was
-    /// appended after `NoMemory`.
+    /// Plays an item, and appends what tells of it, without its number. Nothing is known of what
+    /// was appended after `NoMemory`.
     fn play(&mut self, alloc: Global, item: Self::Item, out: &mut Vec<u8>) -> Result<(), NoMemory>
         ensures after { self.new ≡ play.after self.old item }
         ensures tells { OnOk result (out.new.items ≡ out.old.items ++ play.block self.old item) };
+
+    /// The number of the claim that is broken where the machine stands. `None` where none is.
+    fn halts(&self) -> Option<u32>
+        ensures { result ≡ play.halts self.now };
 
     /// Appends the last text. Nothing is known of what was appended after `NoMemory`.
     fn finish(&self, alloc: Global, out: &mut Vec<u8>) -> Result<(), NoMemory>

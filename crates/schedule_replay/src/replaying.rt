@@ -1,14 +1,22 @@
 //! The loop that replays a schedule.
 
-ghost use Rattle.std.specs.Prelude.{◌≡◌, ◌≤◌, ◌<◌, OnOk, IfOk, IfSome};
-ghost use Rattle.rv_base.specs.Whole.{TakesAtMost, WriteCauses};
-ghost use Rattle.schedule_replay.specs.Turns.{Puts, PlaysLine, TurnCounts};
-ghost use Rattle.schedule_replay.specs.Trace.{numbered_block};
-ghost use Rattle.schedule_replay.specs.Replayed.{StopsSo, WritesSo, ReplayCounts};
+ghost use Rattle.std.specs.Prelude.{◌≡◌, ◌⊎◌, ◌+◌, ◌<◌, ◌^◌, [], ◌++◌, true, false, OnOk, IfSome};
+ghost use Rattle.rv_base.specs.Whole.{TakesAtMost, Writes, WriteCauses, WritesThrough};
+ghost use Rattle.schedule_replay.specs.Limits.{most_taken};
+ghost use Rattle.schedule_replay.specs.AtHand.{reading_of};
+ghost use Rattle.schedule_replay.specs.Played.{numbered_block};
+ghost use Rattle.schedule_replay.specs.Replayed.{StopsSo, WritesSo, ReplayCounts, RisesWhere};
+ghost use Rattle.schedule_replay.specs.Replayed as replayed;
+ghost use Rattle.schedule_replay.specs.Replayed.{is_read_fault, is_write_fault};
+ghost use Rattle.schedule_replay.specs.Turns as turns;
+ghost use Rattle.schedule_replay.specs.Turns.{AskMoves, AskWrites, asks_fault, asks_write_fault};
+ghost use Rattle.schedule_replay.specs.Turns.{asks_well, PlaysLine, PlaysLines, last_of, EndsWith};
 
+use crate::limits::Limits;
 use crate::lines::{Lines, NextLine};
 use crate::player::{Meaning, Player};
-use rv_base::{NoMemory, Sink, Source, Wrote, put_number, write_whole};
+use itoa::Buffer;
+use rv_base::{NoMemory, Sink, Source, Wrote, write_whole};
 use std::alloc::Global;
 
 /// How a replay ends.
@@ -16,11 +24,14 @@ use std::alloc::Global;
 pub enum Replayed {
     /// The schedule was played to its end, and its trace is written.
     Done,
-    /// The line with this number, counted from 1, is malformed or has more than 256 bytes. The blocks
-    /// of the lines before it are written.
+    /// The line with this number, counted from 1, is malformed or longer than a line may be. The
+    /// blocks of the lines before it are written.
     BadLine(u32),
-    /// A byte follows the first 1,000,000 lines, whose blocks are written.
+    /// A byte follows as many lines as a schedule may have, whose blocks are written.
     TooManyLines,
+    /// The claim with this number is broken where the machine stands. The blocks of the lines up to
+    /// there are written, and the line that says so and the last text.
+    ClaimBroken(u32),
     /// A read of the schedule failed. The blocks of the lines whose LF was taken are written.
     ReadFault,
     /// A write failed. A front of what would have been written is.
@@ -29,114 +40,234 @@ pub enum Replayed {
     NoMemory,
 }
 
-// What came of a line.
-#[derive(Clone, Copy)]
-enum Turn {
-    // The line is blank.
-    Blank,
-    // The item that it says was played, and its block is written.
-    Played,
-    // The line is malformed.
-    Bad,
-    // A write failed.
-    WriteFault,
-    // There is no memory.
-    NoMemory,
+// Whether the replay came to where the schedule ends.
+fn is_decided(answer: Replayed) -> bool
+    ensures { result ≡ replayed.is_decided answer }
+{
+    !matches!(
+        answer,
+        Replayed::ReadFault | Replayed::WriteFault | Replayed::NoMemory
+    )
 }
 
-// Plays the item that follows so many others, and gives its block.
-fn play_item<P: Player>(
+// Writes what is kept, and keeps nothing then.
+fn flush<O: Sink>(kept: &mut Vec<u8>, out: &mut O) -> Wrote
+    ensures none { kept.new.items ≡ [] }
+    ensures bytes { Writes (O.taken out.old) (O.taken out.new) kept.old.items result }
+    ensures cause { WriteCauses (O.faults out.old) (O.faults out.new) result }
+    ensures went { WritesThrough O.refused out.old out.new result }
+{
+    let wrote = write_whole(out, kept);
+    kept.clear();
+    wrote
+}
+
+// The number of the line that was got, or how the replay ends.
+fn said(next: NextLine) -> Result<u32, Replayed>
+    ensures { result ≡ turns.said next }
+{
+    match next {
+        NextLine::Got(number) => Ok(number),
+        NextLine::End => Err(Replayed::Done),
+        NextLine::TooLong(number) => Err(Replayed::BadLine(number)),
+        NextLine::TooMany => Err(Replayed::TooManyLines),
+        NextLine::ReadFault => Err(Replayed::ReadFault),
+        NextLine::NoMemory => Err(Replayed::NoMemory),
+    }
+}
+
+// Gets the next line and answers its number, or says how the replay ends. Before the source is
+// read, what is kept is written.
+fn ask<Q: Source, O: Sink>(
+    lines: &mut Lines,
+    schedule: &mut Q,
+    kept: &mut Vec<u8>,
+    out: &mut O,
+) -> Result<u32, Replayed>
+    requires ended { lines.old.ended ≡ true → Q.ended schedule.old ≡ true }
+    ensures limits { lines.new.limits ≡ lines.old.limits }
+    ensures moves { AskMoves lines.old.limits (reading_of lines.old) (reading_of lines.new)
+        (Q.left schedule.old) (Q.left schedule.new) result }
+    ensures ends { lines.new.ended ≡ true → Q.ended schedule.new ≡ true }
+    ensures reads { RisesWhere (asks_fault result) (Q.faults schedule.old) (Q.faults schedule.new) }
+    ensures bytes { AskWrites kept.old.items kept.new.items
+        (O.taken out.old) (O.taken out.new) result }
+    ensures writes { RisesWhere (asks_write_fault result) (O.faults out.old) (O.faults out.new) }
+    ensures went { asks_well result ≡ true → (out.new ≡ out.old) ⊎ (O.refused out.new ≡ false) }
+{
+    if let Some(next) = lines.at_hand() {
+        return said(next);
+    }
+    match flush(kept, out) {
+        Wrote::Whole => said(lines.read(schedule)),
+        Wrote::Failed => Err(Replayed::WriteFault),
+        Wrote::NoMemory => Err(Replayed::NoMemory),
+    }
+}
+
+// Plays the item that follows so many others, and keeps its block.
+fn put_block<P: Player>(
     alloc: Global,
     player: &mut P,
     played: u32,
     item: P::Item,
-) -> Result<Vec<u8>, NoMemory>
-    requires { played < 1000000 }
+    kept: &mut Vec<u8>,
+) -> Result<(), NoMemory>
+    requires { played + 1 < 2 ^ 32 }
     ensures after { OnOk result (player.new ≡ P.play.after player.old item) }
-    ensures tells { IfOk result (λ text. text.items ≡ numbered_block P.play played player.old item) }
+    ensures tells { OnOk result (kept.new.items ≡ kept.old.items
+        ++ numbered_block P.play played player.old item) }
 {
-    let mut text = Vec::new(alloc);
-    put_number(alloc, u64::from(played) + 1, &mut text)?;
-    text.push(b' ')?;
-    player.play(alloc, item, &mut text)?;
-    Ok(text)
+    kept.extend_from_slice(Buffer::new().format(played + 1).as_bytes())?;
+    kept.push(b' ')?;
+    player.play(alloc, item, kept)
 }
 
-// Plays what the line says, after so many items, and writes its block.
-fn play_line<P: Player, O: Sink>(
+// Plays the line with this number, which follows so many items, and keeps its block. Answers how
+// the replay ends, where it ends at this line.
+fn play_line<P: Player>(
     alloc: Global,
     player: &mut P,
-    played: u32,
+    played: &mut u32,
+    number: u32,
     line: &[u8],
-    out: &mut O,
-) -> Turn
-    requires { played < 1000000 }
-    ensures plays { PlaysLine P.play player.old player.new played line.now (O.taken out.old) (O.taken out.new) result }
-    ensures cause { TurnCounts (O.faults out.old) (O.faults out.new) result }
+    kept: &mut Vec<u8>,
+) -> Option<Replayed>
+    requires { played.old + 1 < 2 ^ 32 }
+    ensures { PlaysLine P.play player.old player.new played.old played.new line.now number
+        kept.old.items kept.new.items result }
 {
     let item = match player.read(line) {
-        Meaning::Blank => return Turn::Blank,
+        Meaning::Blank => return None,
         Meaning::Says(item) => item,
-        Meaning::Bad => return Turn::Bad,
+        Meaning::Bad => return Some(Replayed::BadLine(number)),
     };
-    let Ok(text) = play_item(alloc, player, played, item) else {
-        return Turn::NoMemory;
-    };
-    match write_whole(out, &text) {
-        Wrote::Whole => Turn::Played,
-        Wrote::Failed => Turn::WriteFault,
-        Wrote::NoMemory => Turn::NoMemory,
+    if put_block(alloc, player, *played, item, kept).is_err() {
+        return Some(Replayed::NoMemory);
+    }
+    *played += 1;
+    match player.halts() {
+        Some(claim) => Some(Replayed::ClaimBroken(claim)),
+        None => None,
     }
 }
 
-// Writes the last text.
-fn put_ending<P: Player, O: Sink>(alloc: Global, player: &P, out: &mut O) -> Wrote
-    ensures bytes { Puts (O.taken out.old) (O.taken out.new) (P.play.ending player.now) result }
-    ensures cause { WriteCauses (O.faults out.old) (O.faults out.new) result }
-{
-    let mut text = Vec::new(alloc);
-    match player.finish(alloc, &mut text) {
-        Ok(()) => write_whole(out, &text),
-        Err(NoMemory) => Wrote::NoMemory,
-    }
-}
-
-/// Replays the schedule on the machine: plays what its lines say, and writes the trace block by block.
-/// No more is kept than one line, one piece of the schedule and one block.
-pub(crate) fn replay_on<P: Player, Q: Source, O: Sink>(
+// Plays the lines of a schedule to where it ends. The last text is still to be written then, and
+// what is kept before it.
+fn play_lines<P: Player, Q: Source, O: Sink>(
     alloc: Global,
+    limits: Limits,
+    player: &mut P,
+    schedule: &mut Q,
+    kept: &mut Vec<u8>,
+    out: &mut O,
+) -> Replayed
+    requires small { limits.line < 2 ^ 32 }
+    requires none { kept.old.items ≡ [] }
+    ensures plays { IfSome (Q.left schedule.old) (λ text.
+        PlaysLines P.play limits player.old text (Q.left schedule.new)
+        (O.taken out.old) (O.taken out.new) kept.new.items player.new result) }
+    ensures reads { RisesWhere (is_read_fault result)
+        (Q.faults schedule.old) (Q.faults schedule.new) }
+    ensures writes { RisesWhere (is_write_fault result) (O.faults out.old) (O.faults out.new) }
+    ensures taken { TakesAtMost (most_taken limits) (Q.left schedule.old) (Q.left schedule.new) }
+    ensures ended { result ≡ Replayed.Done → Q.ended schedule.new ≡ true }
+    ensures went { replayed.is_decided result ≡ true
+        → (out.new ≡ out.old) ⊎ (O.refused out.new ≡ false) }
+{
+    if let Some(claim) = player.halts() {
+        return Replayed::ClaimBroken(claim);
+    }
+    let mut lines = Lines::new(alloc, limits);
+    let mut played = 0;
+    loop {
+        let number = match ask(&mut lines, schedule, kept, out) {
+            Ok(number) => number,
+            Err(answer) => return answer,
+        };
+        if let Some(answer) = play_line(alloc, player, &mut played, number, lines.text(), kept) {
+            return answer;
+        }
+    }
+}
+
+// Keeps the last text of a replay that ends so.
+fn put_last<P: Player>(
+    alloc: Global,
+    player: &P,
+    answer: Replayed,
+    kept: &mut Vec<u8>,
+) -> Result<(), NoMemory>
+    ensures { OnOk result (kept.new.items ≡ kept.old.items ++ last_of P.play player.now answer) }
+{
+    match answer {
+        Replayed::Done => player.finish(alloc, kept),
+        Replayed::ClaimBroken(claim) => {
+            kept.extend_from_slice(b"claim ")?;
+            kept.extend_from_slice(Buffer::new().format(claim).as_bytes())?;
+            kept.extend_from_slice(b" broken\n")?;
+            player.finish(alloc, kept)
+        }
+        _ => Ok(()),
+    }
+}
+
+// Writes what is kept, and the last text of a replay that ends so.
+fn end<P: Player, O: Sink>(
+    alloc: Global,
+    player: &P,
+    answer: Replayed,
+    kept: &mut Vec<u8>,
+    out: &mut O,
+) -> Replayed
+    requires { replayed.is_decided answer ≡ true }
+    ensures bytes { EndsWith P.play answer (kept.old.items ++ last_of P.play player.now answer)
+        (O.taken out.old) (O.taken out.new) result }
+    ensures writes { RisesWhere (is_write_fault result) (O.faults out.old) (O.faults out.new) }
+    ensures went { replayed.is_decided result ≡ true
+        → (out.new ≡ out.old) ⊎ (O.refused out.new ≡ false) }
+{
+    if put_last(alloc, player, answer, kept).is_err() {
+        return Replayed::NoMemory;
+    }
+    match flush(kept, out) {
+        Wrote::Whole => answer,
+        Wrote::Failed => Replayed::WriteFault,
+        Wrote::NoMemory => Replayed::NoMemory,
+    }
+}
+
+/// Replays a schedule on the machine, and writes its trace: the block of each item that a line
+/// says, and behind the last one what shows the machine. Whenever a read of the schedule is asked
+/// for, the blocks of all lines that were taken whole are written, in one go. The answer says how
+/// the replay ended, and with it what was taken of the schedule and what was written.
+///
+/// No more is kept than one line, one piece of the schedule, and the blocks of the lines that end
+/// in it.
+pub fn play_schedule<P: Player, Q: Source, O: Sink>(
+    alloc: Global,
+    limits: Limits,
     player: &mut P,
     schedule: &mut Q,
     out: &mut O,
 ) -> Replayed
-    ensures stops { IfSome (Q.left schedule.old) (λ text. StopsSo P.play text (Q.left schedule.new) result) }
+    requires { limits.line < 2 ^ 32 }
+    ensures stops { IfSome (Q.left schedule.old) (λ text.
+        StopsSo P.play limits player.old text (Q.left schedule.new) result) }
     ensures writes { IfSome (Q.left schedule.old) (λ text. IfSome (O.taken out.old) (λ before.
-        WritesSo P.play player.old text (Q.left schedule.new) before (O.taken out.new) result)) }
-    ensures counts { ReplayCounts (Q.faults schedule.old) (Q.faults schedule.new) (O.faults out.old) (O.faults out.new) result }
-    ensures taken { TakesAtMost 257000256 (Q.left schedule.old) (Q.left schedule.new) }
+        WritesSo P.play limits player.old text (Q.left schedule.new) before
+        (O.taken out.new) result)) }
+    ensures counts { ReplayCounts (Q.faults schedule.old) (Q.faults schedule.new)
+        (O.faults out.old) (O.faults out.new) result }
+    ensures taken { TakesAtMost (most_taken limits) (Q.left schedule.old) (Q.left schedule.new) }
+    ensures ended { result ≡ Replayed.Done → Q.ended schedule.new ≡ true }
+    ensures went { replayed.is_decided result ≡ true
+        → (out.new ≡ out.old) ⊎ (O.refused out.new ≡ false) }
 {
-    let mut lines = Lines::new();
-    let mut played = 0;
-    loop {
-        match lines.next(schedule) {
-            NextLine::Got(number) => match play_line(alloc, player, played, lines.text(), out) {
-                Turn::Blank => {}
-                Turn::Played => played += 1,
-                Turn::Bad => return Replayed::BadLine(number),
-                Turn::WriteFault => return Replayed::WriteFault,
-                Turn::NoMemory => return Replayed::NoMemory,
-            },
-            NextLine::End => {
-                return match put_ending(alloc, player, out) {
-                    Wrote::Whole => Replayed::Done,
-                    Wrote::Failed => Replayed::WriteFault,
-                    Wrote::NoMemory => Replayed::NoMemory,
-                };
-            }
-            NextLine::TooLong(number) => return Replayed::BadLine(number),
-            NextLine::TooMany => return Replayed::TooManyLines,
-            NextLine::ReadFault => return Replayed::ReadFault,
-            NextLine::NoMemory => return Replayed::NoMemory,
-        }
+    let mut kept = Vec::new(alloc);
+    let answer = play_lines(alloc, limits, player, schedule, &mut kept, out);
+    if !is_decided(answer) {
+        return answer;
     }
+    end(alloc, player, answer, &mut kept, out)
 }

@@ -1,15 +1,18 @@
 //! The trace of a schedule of events on the rendezvous meaning of a protocol.
 
-ghost use Rattle.std.specs.Prelude.{◌≡◌, ◌≤◌, ◌++◌, OnOk, IfSome, slice_get, option_copied};
+ghost use Rattle.std.specs.Prelude.{◌≡◌, ◌⊎◌, ◌≤◌, ◌++◌, true, false, OnOk, IfSome};
+ghost use Rattle.std.specs.Prelude.{slice_get, option_copied};
 ghost use Rattle.rv_base.specs.Whole.{TakesAtMost};
 ghost use Rattle.proto_model.specs.Rendezvous.{IsConfigOf};
-ghost use Rattle.schedule_replay.specs.Replayed.{StopsSo, WritesSo, ReplayCounts};
+ghost use Rattle.schedule_replay.specs.Replayed.{StopsSo, WritesSo, ReplayCounts, is_decided};
+ghost use Rattle.schedule_replay.specs.Limits.{schedule_limits, most_taken};
 ghost use Rattle.schedule_replay.specs.RvTrace as rv_trace;
 ghost use Rattle.schedule_replay.specs.RvTrace.{rv_play, rv_standing};
 
 use crate::events::{EventLine, read_event_line};
+use crate::limits::SCHEDULE_LIMITS;
 use crate::player::{Meaning, Player};
-use crate::replaying::{Replayed, replay_on};
+use crate::replaying::{Replayed, play_schedule};
 use proto_model::{Event, Part, event_text, rv_line};
 use rendezvous_meaning::RvMachine;
 use rv_base::{NoMemory, Sink, Source};
@@ -60,7 +63,8 @@ fn put_lines_after(
     event: Event,
     out: &mut Vec<u8>,
 ) -> Result<(), NoMemory>
-    ensures { OnOk result (out.new.items ≡ out.old.items ++ rv_trace.lines_after machine.now event) }
+    ensures { OnOk result (out.new.items ≡ out.old.items
+        ++ rv_trace.lines_after machine.now event) }
 {
     match event {
         Event::TauHome(_) => put_home(alloc, machine, out),
@@ -111,6 +115,10 @@ impl<'a> Player for RvMachine<'a> {
         put_told(alloc, self, item, moved, out)
     }
 
+    fn halts(&self) -> Option<u32> {
+        None
+    }
+
     fn finish(&self, alloc: Global, out: &mut Vec<u8>) -> Result<(), NoMemory> {
         out.extend_from_slice(b"end\n")?;
         put_home(alloc, self, out)?;
@@ -118,11 +126,11 @@ impl<'a> Player for RvMachine<'a> {
     }
 }
 
-/// Replays a schedule of events on the protocol's rendezvous meaning with n remotes, and writes its trace
-/// block by block. The answer says how the replay ended, and with it what was taken of the schedule and
-/// what was written: at most 257,000,256 bytes of the schedule, which are 1,000,000 lines of 256 bytes with
-/// their LFs, and 256 bytes. Where there is no memory for the remotes at the start, nothing was taken or
-/// written.
+/// Replays a schedule of events on the protocol's rendezvous meaning with n remotes, and writes its
+/// trace. The answer says how the replay ended, and with it what was taken of the schedule and what
+/// was written: at most 257,000,256 bytes of the schedule, which are 1,000,000 lines of 256 bytes
+/// with their LFs, and 256 bytes. No claim can be broken. Where there is no memory for the
+/// remotes at the start, nothing was taken or written.
 pub fn replay_events<Q: Source, O: Sink>(
     alloc: Global,
     checked: &Checked,
@@ -131,14 +139,21 @@ pub fn replay_events<Q: Source, O: Sink>(
     out: &mut O,
 ) -> Replayed
     requires { (1 ≤ n) × (n ≤ 64) }
-    ensures stops { IfSome (Q.left schedule.old) (λ text. StopsSo rv_play text (Q.left schedule.new) result) }
+    ensures stops { IfSome (Q.left schedule.old) (λ text.
+        StopsSo rv_play schedule_limits (rv_standing checked.now.protocol n) text
+        (Q.left schedule.new) result) }
     ensures writes { IfSome (Q.left schedule.old) (λ text. IfSome (O.taken out.old) (λ before.
-        WritesSo rv_play (rv_standing checked.now n) text (Q.left schedule.new) before (O.taken out.new) result)) }
-    ensures counts { ReplayCounts (Q.faults schedule.old) (Q.faults schedule.new) (O.faults out.old) (O.faults out.new) result }
-    ensures taken { TakesAtMost 257000256 (Q.left schedule.old) (Q.left schedule.new) }
+        WritesSo rv_play schedule_limits (rv_standing checked.now.protocol n) text
+        (Q.left schedule.new) before (O.taken out.new) result)) }
+    ensures counts { ReplayCounts (Q.faults schedule.old) (Q.faults schedule.new)
+        (O.faults out.old) (O.faults out.new) result }
+    ensures taken { TakesAtMost (most_taken schedule_limits)
+        (Q.left schedule.old) (Q.left schedule.new) }
+    ensures ended { result ≡ Replayed.Done → Q.ended schedule.new ≡ true }
+    ensures went { is_decided result ≡ true → (out.new ≡ out.old) ⊎ (O.refused out.new ≡ false) }
 {
     match RvMachine::new(alloc, checked, n) {
-        Ok(mut machine) => replay_on(alloc, &mut machine, schedule, out),
+        Ok(mut machine) => play_schedule(alloc, SCHEDULE_LIMITS, &mut machine, schedule, out),
         Err(NoMemory) => Replayed::NoMemory,
     }
 }

@@ -7,5 +7,7 @@ pub rv_line-requires-clause-vars : goal.rv_line-requires-clause-vars
 rv_line-requires-clause-vars c =
     let machine = c.args.machine.now in
     let there = c.in-Some.ensures in
-    let stands = remote-stands machine.protocol.remote machine.config.remotes c.args.j c.in-Some.part.now there.standing.remotes (sym there.value) in
-    rw (c.remote.ensures.value, c.protocol.ensures) (vars-length machine.protocol.remote c.in-Some.part.now stands)
+    let stands = remote-stands machine.protocol.remote machine.config.remotes c.args.j
+    c.in-Some.part.now there.standing.remotes (sym there.value) in
+    rw (c.remote.ensures.value, c.protocol.ensures)
+    (vars-length machine.protocol.remote c.in-Some.part.now stands)

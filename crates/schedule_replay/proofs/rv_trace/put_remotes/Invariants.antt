@@ -4,4 +4,5 @@ use Rattle.schedule_replay.specs.RvTrace.{remote_lines_from}
 use Rattle.schedule_replay.proofs.rv_trace.put_remotes.Given as goal
 
 abbrev pub invariant-loop-j : goal.invariant-loop-j
-invariant-loop-j l = l.out.items ≡ l.fn.out.items ++ remote_lines_from l.machine.protocol.remote 0 (take l.j l.machine.config.remotes)
+invariant-loop-j l = l.out.items ≡ l.fn.out.items
+    ++ remote_lines_from l.machine.protocol.remote 0 (take l.j l.machine.config.remotes)
