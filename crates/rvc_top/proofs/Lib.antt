@@ -1,5 +1,8 @@
 pub mod FirstFault
-pub mod OneVerdict
-pub mod Finished
+pub mod Forms
 pub mod EveryRun
+pub mod Endings
+pub mod Checked
+pub mod Replies
+pub mod Runs
 pub mod Replays

@@ -1,204 +1,423 @@
 -- How a run ends with its replay.
-use Rattle.std.proofs.Common.{◌≡◌, ℕ, ◌+◌, ◌≤◌, ◌<◌, min, IfSome, [], ◌++◌, take, length, Some, None, sym, ◌∙◌, ap, subst, refl, arith, inl, inr, ◌⊎◌, append_assoc}
+use Rattle.std.proofs.Common.{◌≡◌, ℕ, ◌+◌, ◌≤◌, min, Bool, true, false, not, ◌&&◌, IfSome, [], ◌++◌}
+use Rattle.std.proofs.Common.{take, length, Some, None, sym, ◌∙◌, ap, subst, refl, arith, inl, inr}
+use Rattle.std.proofs.Common.{◌⊎◌, append_assoc}
 use Rattle.std.proofs.lemmas.List.{append-nil, take_min, take-append-le}
 use Rattle.std.proofs.Math.Seq.{take-append-add}
 use Rattle.std.specs.declared.option.Option.{Option}
 use Rattle.std.specs.Io.KnownBytes.{append_known, IsAtEnd}
 use Rattle.proto_model.specs.Tokens.{Text}
-use Rattle.proto_model.specs.Numbered.{NumberedProtocol}
 use Rattle.rv_base.specs.Whole.{TakesPart, TakesAtMost}
 use Rattle.schedule_replay.specs.Play.{Play}
-use Rattle.schedule_replay.specs.Scheduled.{Stop, Whole as WholeSchedule, AtLine, TooMany, scheduled}
-use Rattle.schedule_replay.specs.Trace.{trace}
-use Rattle.schedule_replay.specs.Replayed.{StopsSo, WritesSo}
+use Rattle.schedule_replay.specs.Played.{Stop, Whole as WholeSchedule, AtLine, TooMany, Halted}
+use Rattle.schedule_replay.specs.Played.{played, trace}
+use Rattle.schedule_replay.specs.Replayed.{answer_of, LeavesAt, Decides, StopsSo, WritesSo}
+use Rattle.schedule_replay.specs.Replayed.{RisesWhere, is_read_fault, is_write_fault, is_decided}
+use Rattle.schedule_replay.specs.declared.limits.Limits.{Limits}
 use Rattle.schedule_replay.specs.declared.replaying.Replayed.{Replayed}
 use Rattle.schedule_replay.specs.declared.replaying.Replayed.TheVariants as replay
-use Rattle.rvc_top.specs.Verdict.{HasProtocol, CheckedVerdict, ReplayVerdict, bad_line_text, too_many_text}
-use Rattle.rvc_top.specs.Endings.{Whole, Partly, Ends, IsOrFails, ScheduleLeft, IsReplayEnd}
-use Rattle.rvc_top.specs.Reply.{Delivers}
-use Rattle.rvc_top.specs.Replay.{Concludes}
+use Rattle.rvc_top.specs.Texts.{bad_line_text, too_many_text}
+use Rattle.rvc_top.specs.Commands.{Said, done, said_at}
+use Rattle.rvc_top.specs.Verdict.{Says}
+use Rattle.rvc_top.specs.Endings.{kind_of, DecidedKind, IsDecided, IsOfSchedule, read_failed}
+use Rattle.rvc_top.specs.Endings.{write_failed, Whole, Partly, Ends, IsOrFails}
+use Rattle.rvc_top.specs.Reply.{Delivers, Concludes}
+use Rattle.rvc_top.specs.Runs.{IsReplayEnd}
 use Rattle.rvc_top.specs.declared.status.Status.{Status}
-use Rattle.rvc_top.specs.declared.status.Status.TheVariants.{Done, Usage, FileRefused, ScheduleRefused, ReadFault, WriteFault, NoMemory}
-use Rattle.rvc_top.proofs.OneVerdict.{verdict-of-protocol}
+use Rattle.rvc_top.specs.declared.status.Status.TheVariants.{Done, ScheduleRefused, ReadFault}
+use Rattle.rvc_top.specs.declared.status.Status.TheVariants.{WriteFault, NoMemory, ClaimBroken}
+use Rattle.rvc_top.proofs.Endings.{ends-decided, by-delivery}
 
--- ---- fronts of the verdict's text
+-- ---- what is said, by the answer of the replay
+
+-- the status of a run whose replay ended so
+abbrev pub status_by : Replayed → Status
+status_by replay.Done = Done
+status_by (replay.BadLine line) = ScheduleRefused
+status_by replay.TooManyLines = ScheduleRefused
+status_by (replay.ClaimBroken claim) = ClaimBroken
+status_by replay.ReadFault = ReadFault
+status_by replay.WriteFault = WriteFault
+status_by replay.NoMemory = NoMemory
+
+-- the text that follows the trace
+abbrev error_by : Replayed → Text
+error_by replay.Done = []
+error_by (replay.BadLine line) = bad_line_text line
+error_by replay.TooManyLines = too_many_text
+error_by (replay.ClaimBroken claim) = []
+error_by replay.ReadFault = []
+error_by replay.WriteFault = []
+error_by replay.NoMemory = []
+
+said-status : (stop : Stop) (text : Text) → (said_at stop text).status ≡ status_by (answer_of stop)
+said-status WholeSchedule text = refl
+said-status (AtLine line) text = refl
+said-status TooMany text = refl
+said-status (Halted lines claim) text = refl
+
+said-text : (stop : Stop) (text : Text) → (said_at stop text).text ≡ text
+    ++ error_by (answer_of stop)
+said-text WholeSchedule text = sym (append-nil text)
+said-text (AtLine line) text = refl
+said-text TooMany text = refl
+said-text (Halted lines claim) text = sym (append-nil text)
+
+-- ---- what holds of the answer of the run
+
+-- The run's answer is that of its replay; or, as the schedule is refused, the writing failed.
+by-conclusion : (P : Replayed → Status → Type 0) → ((r : Replayed) → P r (status_by r))
+    → ((r : Replayed) → is_decided r ≡ true → P r WriteFault × P r NoMemory)
+    → (old new : Option Text) (replayed : Replayed) (answer : Status)
+    → Concludes old new replayed answer → P replayed answer
+by-conclusion P same cut old new replay.Done answer w =
+    subst (P replay.Done) (sym w.0) (same replay.Done)
+by-conclusion P same cut old new (replay.BadLine line) answer w =
+    by-delivery (P (replay.BadLine line)) old new (bad_line_text line) ScheduleRefused answer w
+    (same (replay.BadLine line)) (cut (replay.BadLine line) refl).0
+    (cut (replay.BadLine line) refl).1
+by-conclusion P same cut old new replay.TooManyLines answer w =
+    by-delivery (P replay.TooManyLines) old new too_many_text ScheduleRefused answer w
+    (same replay.TooManyLines) (cut replay.TooManyLines refl).0 (cut replay.TooManyLines refl).1
+by-conclusion P same cut old new (replay.ClaimBroken claim) answer w =
+    subst (P (replay.ClaimBroken claim)) (sym w.0) (same (replay.ClaimBroken claim))
+by-conclusion P same cut old new replay.ReadFault answer w =
+    subst (P replay.ReadFault) (sym w.0) (same replay.ReadFault)
+by-conclusion P same cut old new replay.WriteFault answer w =
+    subst (P replay.WriteFault) (sym w.0) (same replay.WriteFault)
+by-conclusion P same cut old new replay.NoMemory answer w =
+    subst (P replay.NoMemory) (sym w.0) (same replay.NoMemory)
+
+status-end : (r : Replayed) → IsReplayEnd (status_by r)
+status-end replay.Done = tt
+status-end (replay.BadLine line) = tt
+status-end replay.TooManyLines = tt
+status-end (replay.ClaimBroken claim) = tt
+status-end replay.ReadFault = tt
+status-end replay.WriteFault = tt
+status-end replay.NoMemory = tt
+
+status-read : (r : Replayed) → read_failed (kind_of (status_by r)) ≡ is_read_fault r
+status-read replay.Done = refl
+status-read (replay.BadLine line) = refl
+status-read replay.TooManyLines = refl
+status-read (replay.ClaimBroken claim) = refl
+status-read replay.ReadFault = refl
+status-read replay.WriteFault = refl
+status-read replay.NoMemory = refl
+
+status-write : (r : Replayed) → write_failed (kind_of (status_by r)) ≡ is_write_fault r
+status-write replay.Done = refl
+status-write (replay.BadLine line) = refl
+status-write replay.TooManyLines = refl
+status-write (replay.ClaimBroken claim) = refl
+status-write replay.ReadFault = refl
+status-write replay.WriteFault = refl
+status-write replay.NoMemory = refl
+
+decided-reads : (r : Replayed) → is_decided r ≡ true → false ≡ is_read_fault r
+decided-reads replay.Done e = refl
+decided-reads (replay.BadLine line) e = refl
+decided-reads replay.TooManyLines e = refl
+decided-reads (replay.ClaimBroken claim) e = refl
+decided-reads replay.ReadFault e = absurd (cc)
+decided-reads replay.WriteFault e = absurd (cc)
+decided-reads replay.NoMemory e = absurd (cc)
+
+-- a status that is decided is the replay's, which is decided too
+decided-same : (r : Replayed) → IsDecided (status_by r) → (is_decided r ≡ true)
+    × (status_by r ≡ status_by r)
+decided-same replay.Done is = (refl, refl)
+decided-same (replay.BadLine line) is = (refl, refl)
+decided-same replay.TooManyLines is = (refl, refl)
+decided-same (replay.ClaimBroken claim) is = (refl, refl)
+decided-same replay.ReadFault is = absurd is
+decided-same replay.WriteFault is = absurd is
+decided-same replay.NoMemory is = absurd is
+
+module _ (old new : Option Text) (replayed : Replayed) (answer : Status)
+    (w : Concludes old new replayed answer) where
+  pub concluded-ends : IsReplayEnd answer
+  concluded-ends = by-conclusion (λ r s. IsReplayEnd s) status-end (λ r e. (tt, tt)) old new
+      replayed answer w
+
+  concluded-read : read_failed (kind_of answer) ≡ is_read_fault replayed
+  concluded-read = by-conclusion (λ r s. read_failed (kind_of s) ≡ is_read_fault r) status-read
+      (λ r e. (decided-reads r e, decided-reads r e)) old new replayed answer w
+
+  pub concluded-read-count : (before now : ℕ) → RisesWhere (is_read_fault replayed) before now
+      → RisesWhere (read_failed (kind_of answer)) before now
+  concluded-read-count before now rises = subst (λ (b : Bool). RisesWhere b before now)
+      (sym concluded-read) rises
+
+  pub concluded-decided : IsDecided answer → (is_decided replayed ≡ true)
+      × (answer ≡ status_by replayed)
+  concluded-decided = by-conclusion (λ r s. IsDecided s → (is_decided r ≡ true) × (s ≡ status_by r))
+      decided-same (λ r e. (λ is. absurd is, λ is. absurd is)) old new replayed answer w
+
+-- the count of the sink's faults over the replay and the run's last text
+count-then : (failed wrote : Bool) (a b c : ℕ) → (failed ≡ true → wrote ≡ true)
+    → RisesWhere failed a b → RisesWhere (not failed && wrote) b c → RisesWhere wrote a c
+count-then true wrote a b c same first last =
+    subst (λ (w : Bool). RisesWhere w a c) (sym (same refl))
+    (subst (λ (n : ℕ). RisesWhere true a n) (sym last) first)
+count-then false wrote a b c same first last = subst (λ (n : ℕ). RisesWhere wrote n c) first last
+
+failed-same : (r : Replayed) → is_write_fault r ≡ true → is_decided r ≡ false
+failed-same replay.Done e = absurd (cc)
+failed-same (replay.BadLine line) e = absurd (cc)
+failed-same replay.TooManyLines e = absurd (cc)
+failed-same (replay.ClaimBroken claim) e = absurd (cc)
+failed-same replay.ReadFault e = absurd (cc)
+failed-same replay.WriteFault e = refl
+failed-same replay.NoMemory e = absurd (cc)
+
+pub concluded-write-count : (old new : Option Text) (replayed : Replayed) (answer : Status)
+    → Concludes old new replayed answer → (a b c : ℕ) → RisesWhere (is_write_fault replayed) a b
+    → RisesWhere (not (is_write_fault replayed) && write_failed (kind_of answer)) b c
+    → RisesWhere (write_failed (kind_of answer)) a c
+concluded-write-count old new replayed answer w a b c first last =
+    count-then (is_write_fault replayed) (write_failed (kind_of answer)) a b c
+    (by-conclusion (λ r s. is_write_fault r ≡ true → write_failed (kind_of s) ≡ true)
+    (λ r e. status-write r ∙ e)
+    (λ r is. (λ e. refl, λ e. absurd (let undecided = failed-same r e in cc))) old new replayed
+    answer w)
+    first last
+
+-- the sink over the replay and the run's last text
+pub taken-then : {O : Type 0} (refused : O → Bool) (a b c : O) → ((b ≡ a) ⊎ (refused b ≡ false))
+    → ((c ≡ b) ⊎ (refused c ≡ false)) → (c ≡ a) ⊎ (refused c ≡ false)
+taken-then refused a b c first (inr took) = inr took
+taken-then refused a b c (inl same) (inl e) = inl (e ∙ same)
+taken-then refused a b c (inr took) (inl e) = inr (ap refused e ∙ took)
+
+-- ---- fronts of what is said
 
 -- what the sink has taken is a front of a text that begins so
-front-longer : (before trace more : Text) (now : Option Text) (count : ℕ) → now ≡ Some (before ++ take count trace) → (n : ℕ) × (now ≡ Some (before ++ take n (trace ++ more)))
+front-longer : (before trace more : Text) (now : Option Text) (count : ℕ)
+    → now ≡ Some (before ++ take count trace) → (n : ℕ)
+    × (now ≡ Some (before ++ take n (trace ++ more)))
 front-longer before trace more now count e = (
   min count (length trace),
-  e ∙ ap (λ bytes. Some (before ++ bytes)) (sym (take_min count trace) ∙ sym (take-append-le (min count (length trace)) trace more (omega arith))),
+  e ∙ ap (λ bytes. Some (before ++ bytes)) (sym (take_min count trace)
+      ∙ sym (take-append-le (min count (length trace)) trace more (omega arith))),
 )
 
 -- a part of what follows the trace was taken too
-front-behind : (before trace more : Text) (mid now : Option Text) → mid ≡ Some (before ++ trace) → TakesPart mid now more → (n : ℕ) × (now ≡ Some (before ++ take n (trace ++ more)))
+front-behind : (before trace more : Text) (mid now : Option Text) → mid ≡ Some (before ++ trace)
+    → TakesPart mid now more → (n : ℕ) × (now ≡ Some (before ++ take n (trace ++ more)))
 front-behind before trace more mid now e part = (
   length trace + part.0,
   part.2 ∙ (ap (λ old. append_known old (take part.0 more)) e
-      ∙ ap (λ bytes. Some bytes) (append_assoc before trace (take part.0 more) ∙ ap (λ bytes. before ++ bytes) (sym (take-append-add trace more part.0)))),
+      ∙ ap (λ bytes. Some bytes) (append_assoc before trace (take part.0 more)
+      ∙ ap (λ bytes. before ++ bytes) (sym (take-append-add trace more part.0)))),
 )
 
--- the text of the verdict of a replay begins with the trace
-begins : (stop : Stop) (trace : Text) (status : Status) (text : Text) → ReplayVerdict stop trace status text → (more : Text) × (text ≡ trace ++ more)
-begins WholeSchedule trace status text v = ([], v.1 ∙ sym (append-nil trace))
-begins (AtLine line) trace status text v = (bad_line_text line, v.1)
-begins TooMany trace status text v = (too_many_text, v.1)
+-- ---- how the run ends
 
-partly-trace : (stop : Stop) (trace before : Text) (now : Option Text) (count : ℕ) → now ≡ Some (before ++ take count trace) → Partly (ReplayVerdict stop trace) before now
-partly-trace stop trace before now count e status text v =
-    let start = begins stop trace status text v in
-    let front = front-longer before trace start.0 now count e in
-    (front.0, front.1 ∙ ap (λ bytes. Some (before ++ take front.0 bytes)) (sym start.1))
+module _ (stop : Stop) (trace before : Text) (fault : Type 0) (mid now : Option Text)
+    (answer : Status) where
+  -- a front of the trace is one of what is said
+  partly-trace : (count : ℕ) → now ≡ Some (before ++ take count trace)
+      → Partly (Says (said_at stop trace)) before now
+  partly-trace count e status text said =
+      let front = front-longer before trace (error_by (answer_of stop)) now count e in (
+        front.0,
+        front.1 ∙ ap (λ bytes. Some (before ++ take front.0 bytes))
+            (sym (said.1 ∙ said-text stop trace)),
+      )
 
--- the error text that follows the trace of a schedule that is refused
-abbrev RefusedBy : Stop → Text → Text → Type 0
-RefusedBy stop trace error = (status : Status) (text : Text) → ReplayVerdict stop trace status text → text ≡ trace ++ error
+  -- the trace was written, and this text was to follow
+  ends-behind : (error : Text) (status : Status) → status ≡ (said_at stop trace).status → trace
+      ++ error ≡ (said_at stop trace).text → IsDecided status
+      → mid ≡ Some (before ++ trace) → Delivers mid now error status answer
+      → Ends (Says (said_at stop trace)) fault before now answer
+  ends-behind error status same text is wrote (inl w) =
+      subst (Ends (Says (said_at stop trace)) fault before now) (sym w.0)
+      (ends-decided (kind_of status) is (Says (said_at stop trace)) fault before now status (
+        trace ++ error,
+        (same, text),
+        w.1 ∙ (ap (λ old. append_known old error) wrote
+            ∙ ap (λ bytes. Some bytes) (append_assoc before trace error)),
+      ))
+  ends-behind error status same text is wrote (inr w) =
+      let part : TakesPart mid now error = part-of w in
+      let front = front-behind before trace error mid now wrote part in
+      let partly : Partly (Says (said_at stop trace)) before now =
+      λ s t said. (
+        front.0,
+        front.1 ∙ ap (λ bytes. Some (before ++ take front.0 bytes))
+            (text ∙ sym said.1),
+      ) in
+      cut w partly
+    where
+      part-of : ((answer ≡ WriteFault) × TakesPart mid now error)
+          ⊎ ((answer ≡ NoMemory) × TakesPart mid now error) → TakesPart mid now error
+      part-of (inl w) = w.1
+      part-of (inr w) = w.1
 
-module _ (stop : Stop) (trace error : Text) (fault : Type 0) (before : Text) (mid now : Option Text) where
-  -- the trace was written and the error text was to follow
-  ends-refused : RefusedBy stop trace error → ReplayVerdict stop trace ScheduleRefused (trace ++ error) → mid ≡ Some (before ++ trace) → (answer : Status) → Delivers mid now error ScheduleRefused answer
-      → Ends (ReplayVerdict stop trace) fault before now answer
-  ends-refused only said wrote answer (inl w) =
-      subst (Ends (ReplayVerdict stop trace) fault before now) (sym w.0)
-      (trace ++ error, said, w.1 ∙ (ap (λ old. append_known old error) wrote ∙ ap (λ bytes. Some bytes) (append_assoc before trace error)))
-  ends-refused only said wrote answer (inr (inl w)) =
-      let front = front-behind before trace error mid now wrote w.1 in
-      subst (Ends (ReplayVerdict stop trace) fault before now) (sym w.0) (λ status text v. (front.0, front.1 ∙ ap (λ bytes. Some (before ++ take front.0 bytes)) (sym (only status text v))))
-  ends-refused only said wrote answer (inr (inr w)) =
-      let front = front-behind before trace error mid now wrote w.1 in
-      subst (Ends (ReplayVerdict stop trace) fault before now) (sym w.0) (λ status text v. (front.0, front.1 ∙ ap (λ bytes. Some (before ++ take front.0 bytes)) (sym (only status text v))))
+      cut : ((answer ≡ WriteFault) × TakesPart mid now error)
+          ⊎ ((answer ≡ NoMemory) × TakesPart mid now error)
+          → Partly (Says (said_at stop trace)) before now
+          → Ends (Says (said_at stop trace)) fault before now answer
+      cut (inl w) partly = subst (Ends (Says (said_at stop trace)) fault before now) (sym w.0)
+          partly
+      cut (inr w) partly = subst (Ends (Says (said_at stop trace)) fault before now) (sym w.0)
+          partly
 
-delivers-fails : (old now : Option Text) (text : Text) (answer : Status) → Delivers old now text ScheduleRefused answer → IsOrFails ScheduleRefused answer
-delivers-fails old now text answer (inl w) = inl w.0
-delivers-fails old now text answer (inr (inl w)) = inr (inr (inl w.0))
-delivers-fails old now text answer (inr (inr w)) = inr (inr (inr w.0))
+  -- the trace was written, and nothing follows
+  ends-there : (status : Status) → status ≡ (said_at stop trace).status → trace
+      ++ [] ≡ (said_at stop trace).text → IsDecided status
+      → mid ≡ Some (before ++ trace) → (answer ≡ status) × (now ≡ mid)
+      → Ends (Says (said_at stop trace)) fault before now answer
+  ends-there status same text is wrote w =
+      subst (Ends (Says (said_at stop trace)) fault before now) (sym w.0)
+      (ends-decided (kind_of status) is (Says (said_at stop trace)) fault before now status
+      (trace, (same, sym (append-nil trace) ∙ text), w.1 ∙ wrote))
 
-delivers-end : (old now : Option Text) (text : Text) (answer : Status) → Delivers old now text ScheduleRefused answer → IsReplayEnd answer
-delivers-end old now text answer (inl w) = subst IsReplayEnd (sym w.0) tt
-delivers-end old now text answer (inr (inl w)) = subst IsReplayEnd (sym w.0) tt
-delivers-end old now text answer (inr (inr w)) = subst IsReplayEnd (sym w.0) tt
+  ends-cut : (status : Status) → (Partly (Says (said_at stop trace)) before now
+      → Ends (Says (said_at stop trace)) fault before now status)
+      → (count : ℕ) × (mid ≡ Some (before ++ take count trace)) → (answer ≡ status) × (now ≡ mid)
+      → Ends (Says (said_at stop trace)) fault before now answer
+  ends-cut status lift front w = subst (Ends (Says (said_at stop trace)) fault before now) (sym w.0)
+      (lift (partly-trace front.0 (w.1 ∙ front.1)))
 
--- the run ends in one of these ways
-pub concludes-end : (old now : Option Text) (replayed : Replayed) (answer : Status) → Concludes old now replayed answer → IsReplayEnd answer
-concludes-end old now replay.Done answer w = subst IsReplayEnd (sym w.0) tt
-concludes-end old now (replay.BadLine line) answer w = delivers-end old now (bad_line_text line) answer w
-concludes-end old now replay.TooManyLines answer w = delivers-end old now too_many_text answer w
-concludes-end old now replay.ReadFault answer w = subst IsReplayEnd (sym w.0) tt
-concludes-end old now replay.WriteFault answer w = subst IsReplayEnd (sym w.0) tt
-concludes-end old now replay.NoMemory answer w = subst IsReplayEnd (sym w.0) tt
+module _ {State Item : Type 0} (play : Play State Item) (limits : Limits) (start : State)
+    (schedule : Text) (left : Option Text) where
+  -- the status that is said is that of the replay's answer
+  same-status : (r : Replayed) → Decides play limits start schedule left r
+      → status_by r ≡ (said_at (played play limits start schedule).stop
+      (trace play limits start schedule)).status
+  same-status r d = ap status_by d.0 ∙ sym (said-status (played play limits start schedule).stop
+      (trace play limits start schedule))
 
--- a read fault is answered only after one
-pub concludes-read : (old now : Option Text) (replayed : Replayed) (answer : Status) → Concludes old now replayed answer → answer ≡ ReadFault → replayed ≡ replay.ReadFault
-concludes-read old now replay.Done answer w e = absurd (cc w.0)
-concludes-read old now (replay.BadLine line) answer (inl w) e = absurd (cc w.0)
-concludes-read old now (replay.BadLine line) answer (inr (inl w)) e = absurd (cc w.0)
-concludes-read old now (replay.BadLine line) answer (inr (inr w)) e = absurd (cc w.0)
-concludes-read old now replay.TooManyLines answer (inl w) e = absurd (cc w.0)
-concludes-read old now replay.TooManyLines answer (inr (inl w)) e = absurd (cc w.0)
-concludes-read old now replay.TooManyLines answer (inr (inr w)) e = absurd (cc w.0)
-concludes-read old now replay.ReadFault answer w e = refl
-concludes-read old now replay.WriteFault answer w e = absurd (cc w.0)
-concludes-read old now replay.NoMemory answer w e = absurd (cc w.0)
+  same-text : (r : Replayed) → Decides play limits start schedule left r
+      → trace play limits start schedule ++ error_by
+      r ≡ (said_at (played play limits start schedule).stop (trace play limits start schedule)).text
+  same-text r d = ap (λ (a : Replayed). trace play limits start schedule ++ error_by a) d.0
+      ∙ sym (said-text (played play limits start schedule).stop (trace play limits start schedule))
 
--- ---- the replay of a schedule
-
-module _ {State Item : Type 0} (play : Play State Item) (start : State) (schedule : Text) (left : Option Text) where
-  -- how the run ends
-  pub ends-replay : (before : Text) (mid now : Option Text) (replayed : Replayed) (answer : Status) → StopsSo play schedule left replayed → WritesSo play start schedule left before mid replayed → Concludes mid now replayed answer
-      → Ends (ReplayVerdict (scheduled play.says schedule).stop (trace play start schedule)) (WritesSo play start schedule left before now replay.ReadFault) before now answer
+  pub ends-replay : (before : Text) (mid now : Option Text) (replayed : Replayed) (answer : Status)
+      → StopsSo play limits start schedule left replayed
+      → WritesSo play limits start schedule left before mid replayed
+      → Concludes mid now replayed answer
+      → Ends (Says (said_at (played play limits start schedule).stop
+      (trace play limits start schedule)))
+      (WritesSo play limits start schedule left before now replay.ReadFault) before now answer
   ends-replay before mid now replay.Done answer stops writes w =
-      let said : ReplayVerdict (scheduled play.says schedule).stop (trace play start schedule) Done (trace play start schedule) =
-      subst (λ (stop : Stop). ReplayVerdict stop (trace play start schedule) Done (trace play start schedule)) (sym stops.0) (refl, refl) in
-      subst (Ends (ReplayVerdict (scheduled play.says schedule).stop (trace play start schedule)) (WritesSo play start schedule left before now replay.ReadFault) before now) (sym w.0)
-      (trace play start schedule, said, w.1 ∙ writes)
+      ends-there (played play limits start schedule).stop (trace play limits start schedule) before
+      _ mid now answer Done (same-status replay.Done stops) (same-text replay.Done stops) tt
+      writes w
   ends-replay before mid now (replay.BadLine line) answer stops writes w =
-      subst (λ (stop : Stop). Ends (ReplayVerdict stop (trace play start schedule)) (WritesSo play start schedule left before now replay.ReadFault) before now answer) (sym stops.0)
-      (ends-refused (AtLine line) (trace play start schedule) (bad_line_text line) (WritesSo play start schedule left before now replay.ReadFault) before mid now (λ status text v. v.1) (refl, refl) writes answer w)
+      ends-behind (played play limits start schedule).stop (trace play limits start schedule) before
+      _ mid now answer (bad_line_text line) ScheduleRefused
+      (same-status (replay.BadLine line) stops) (same-text (replay.BadLine line) stops) tt
+      writes w
   ends-replay before mid now replay.TooManyLines answer stops writes w =
-      subst (λ (stop : Stop). Ends (ReplayVerdict stop (trace play start schedule)) (WritesSo play start schedule left before now replay.ReadFault) before now answer) (sym stops.0)
-      (ends-refused TooMany (trace play start schedule) too_many_text (WritesSo play start schedule left before now replay.ReadFault) before mid now (λ status text v. v.1) (refl, refl) writes answer w)
+      ends-behind (played play limits start schedule).stop (trace play limits start schedule) before
+      _ mid now answer too_many_text ScheduleRefused (same-status replay.TooManyLines stops)
+      (same-text replay.TooManyLines stops) tt writes w
+  ends-replay before mid now (replay.ClaimBroken claim) answer stops writes w =
+      ends-there (played play limits start schedule).stop (trace play limits start schedule) before
+      _ mid now answer ClaimBroken (same-status (replay.ClaimBroken claim) stops)
+      (same-text (replay.ClaimBroken claim) stops) tt writes w
   ends-replay before mid now replay.ReadFault answer stops writes w =
-      subst (Ends (ReplayVerdict (scheduled play.says schedule).stop (trace play start schedule)) (WritesSo play start schedule left before now replay.ReadFault) before now) (sym w.0)
-      (subst (λ (bytes : Option Text). WritesSo play start schedule left before bytes replay.ReadFault) (sym w.1) writes)
+      subst (Ends
+      (Says (said_at (played play limits start schedule).stop
+      (trace play limits start schedule)))
+      (WritesSo play limits start schedule left before now replay.ReadFault) before now)
+      (sym w.0)
+      (subst (λ (bytes : Option Text). WritesSo play limits start schedule left before bytes
+      replay.ReadFault) (sym w.1) writes)
   ends-replay before mid now replay.WriteFault answer stops writes w =
-      subst (Ends (ReplayVerdict (scheduled play.says schedule).stop (trace play start schedule)) (WritesSo play start schedule left before now replay.ReadFault) before now) (sym w.0)
-      (partly-trace (scheduled play.says schedule).stop (trace play start schedule) before now writes.0 (w.1 ∙ writes.1))
+      ends-cut (played play limits start schedule).stop (trace play limits start schedule) before _
+      mid now answer WriteFault (λ p. p) writes w
   ends-replay before mid now replay.NoMemory answer stops writes w =
-      subst (Ends (ReplayVerdict (scheduled play.says schedule).stop (trace play start schedule)) (WritesSo play start schedule left before now replay.ReadFault) before now) (sym w.0)
-      (partly-trace (scheduled play.says schedule).stop (trace play start schedule) before now writes.0 (w.1 ∙ writes.1))
+      ends-cut (played play limits start schedule).stop (trace play limits start schedule) before _
+      mid now answer NoMemory (λ p. p) writes w
 
-  -- the status of a schedule that is not refused, and of one that is
-  whole-status : (stop : Stop) (trace : Text) → stop ≡ WholeSchedule → (status : Status) (text : Text) → ReplayVerdict stop trace status text → status ≡ Done
-  whole-status stop trace e status text v = (subst (λ (s : Stop). ReplayVerdict s trace status text) e v).0
+  -- a replay whose answer is decided has its stop
+  decides : (r : Replayed) → is_decided r ≡ true → StopsSo play limits start schedule left r
+      → Decides play limits start schedule left r
+  decides replay.Done e stops = stops
+  decides (replay.BadLine line) e stops = stops
+  decides replay.TooManyLines e stops = stops
+  decides (replay.ClaimBroken claim) e stops = stops
+  decides replay.ReadFault e stops = absurd (cc)
+  decides replay.WriteFault e stops = absurd (cc)
+  decides replay.NoMemory e stops = absurd (cc)
 
-  at-line-status : (stop : Stop) (line : ℕ) (trace : Text) → stop ≡ AtLine line → (status : Status) (text : Text) → ReplayVerdict stop trace status text → status ≡ ScheduleRefused
-  at-line-status stop line trace e status text v = (subst (λ (s : Stop). ReplayVerdict s trace status text) e v).0
+  same-end : (r : Replayed) → StopsSo play limits start schedule left r
+      → IsOrFails (said_at (played play limits start schedule).stop
+      (trace play limits start schedule)).status (status_by r)
+  same-end replay.Done stops = inl (same-status replay.Done stops)
+  same-end (replay.BadLine line) stops = inl (same-status (replay.BadLine line) stops)
+  same-end replay.TooManyLines stops = inl (same-status replay.TooManyLines stops)
+  same-end (replay.ClaimBroken claim) stops = inl (same-status (replay.ClaimBroken claim) stops)
+  same-end replay.ReadFault stops = inr (inl refl)
+  same-end replay.WriteFault stops = inr (inr (inl refl))
+  same-end replay.NoMemory stops = inr (inr (inr refl))
 
-  too-many-status : (stop : Stop) (trace : Text) → stop ≡ TooMany → (status : Status) (text : Text) → ReplayVerdict stop trace status text → status ≡ ScheduleRefused
-  too-many-status stop trace e status text v = (subst (λ (s : Stop). ReplayVerdict s trace status text) e v).0
+  pub exact-replay : (mid now : Option Text) (replayed : Replayed) (answer : Status)
+      → StopsSo play limits start schedule left replayed → Concludes mid now replayed answer
+      → IsOrFails (said_at (played play limits start schedule).stop
+      (trace play limits start schedule)).status answer
+  exact-replay mid now replayed answer stops w =
+      by-conclusion (λ r s. StopsSo play limits start schedule left r
+      → IsOrFails (said_at (played play limits start schedule).stop
+      (trace play limits start schedule)).status s)
+      same-end (λ r e. (λ x. inr (inr (inl refl)), λ x. inr (inr (inr refl)))) mid now replayed
+      answer w stops
 
-  -- the answer is the status of the verdict, or what ended the run in its place
-  pub exact-replay : (mid now : Option Text) (replayed : Replayed) (answer : Status) → StopsSo play schedule left replayed → Concludes mid now replayed answer
-      → (status : Status) (text : Text) → ReplayVerdict (scheduled play.says schedule).stop (trace play start schedule) status text → IsOrFails status answer
-  exact-replay mid now replay.Done answer stops w status text v =
-      inl (w.0 ∙ sym (whole-status (scheduled play.says schedule).stop (trace play start schedule) stops.0 status text v))
-  exact-replay mid now (replay.BadLine line) answer stops w status text v =
-      subst (λ (s : Status). IsOrFails s answer) (sym (at-line-status (scheduled play.says schedule).stop line (trace play start schedule) stops.0 status text v)) (delivers-fails mid now (bad_line_text line) answer w)
-  exact-replay mid now replay.TooManyLines answer stops w status text v =
-      subst (λ (s : Status). IsOrFails s answer) (sym (too-many-status (scheduled play.says schedule).stop (trace play start schedule) stops.0 status text v)) (delivers-fails mid now too_many_text answer w)
-  exact-replay mid now replay.ReadFault answer stops w status text v = inr (inl w.0)
-  exact-replay mid now replay.WriteFault answer stops w status text v = inr (inr (inl w.0))
-  exact-replay mid now replay.NoMemory answer stops w status text v = inr (inr (inr w.0))
+  -- a decided answer is the status that is said, and this is left of the schedule
+  pub decided-replay : (mid now : Option Text) (replayed : Replayed) (answer : Status)
+      → StopsSo play limits start schedule left replayed → Concludes mid now replayed answer
+      → IsDecided answer
+      → (answer ≡ (said_at (played play limits start schedule).stop
+      (trace play limits start schedule)).status)
+      × LeavesAt limits (played play limits start schedule).stop schedule left
+  decided-replay mid now replayed answer stops w is =
+      let same = concluded-decided mid now replayed answer w is in
+      let d = decides replayed same.0 stops in
+      (same.1 ∙ same-status replayed d, d.1)
 
-  left-delivered : (stop : Stop) (mid now : Option Text) (text : Text) (answer : Status) → Delivers mid now text ScheduleRefused answer → ScheduleLeft stop schedule left ScheduleRefused → ScheduleLeft stop schedule left answer
-  left-delivered stop mid now text answer (inl w) few = subst (ScheduleLeft stop schedule left) (sym w.0) few
-  left-delivered stop mid now text answer (inr (inl w)) few = subst (ScheduleLeft stop schedule left) (sym w.0) tt
-  left-delivered stop mid now text answer (inr (inr w)) few = subst (ScheduleLeft stop schedule left) (sym w.0) tt
+  whole-left : (stop : Stop) → Done ≡ (said_at stop (trace play limits start schedule)).status
+      → LeavesAt limits stop schedule left → left ≡ Some []
+  whole-left WholeSchedule e leaves = leaves
+  whole-left (AtLine line) e leaves = absurd (cc)
+  whole-left TooMany e leaves = absurd (cc)
+  whole-left (Halted lines claim) e leaves = absurd (cc)
 
-  -- what is left of the schedule
-  pub left-replay : (mid now : Option Text) (replayed : Replayed) (answer : Status) → StopsSo play schedule left replayed → Concludes mid now replayed answer → ScheduleLeft (scheduled play.says schedule).stop schedule left answer
-  left-replay mid now replay.Done answer stops w = subst (ScheduleLeft (scheduled play.says schedule).stop schedule left) (sym w.0) stops.1
-  left-replay mid now (replay.BadLine line) answer stops w =
-      subst (λ (stop : Stop). ScheduleLeft stop schedule left answer) (sym stops.0) (left-delivered (AtLine line) mid now (bad_line_text line) answer w stops.1)
-  left-replay mid now replay.TooManyLines answer stops w =
-      subst (λ (stop : Stop). ScheduleLeft stop schedule left answer) (sym stops.0) (left-delivered TooMany mid now too_many_text answer w stops.1)
-  left-replay mid now replay.ReadFault answer stops w = subst (ScheduleLeft (scheduled play.says schedule).stop schedule left) (sym w.0) tt
-  left-replay mid now replay.WriteFault answer stops w = subst (ScheduleLeft (scheduled play.says schedule).stop schedule left) (sym w.0) tt
-  left-replay mid now replay.NoMemory answer stops w = subst (ScheduleLeft (scheduled play.says schedule).stop schedule left) (sym w.0) tt
-
--- ---- from the file's protocol to the file
-
-module _ (v w : Status → Text → Type 0) (there : (status : Status) (text : Text) → v status text → w status text) (back : (status : Status) (text : Text) → w status text → v status text)
-    (fault more : Type 0) (fails : fault → more) (before : Text) (now : Option Text) where
-  whole-map : (status : Status) → Whole v before now status → Whole w before now status
-  whole-map status x = (x.0, there status x.0 x.1, x.2)
-
-  partly-map : Partly v before now → Partly w before now
-  partly-map x status text said = x status text (back status text said)
-
-  -- the run ends as another verdict says that says the same
-  pub ends-map : (status : Status) → Ends v fault before now status → Ends w more before now status
-  ends-map Done x = whole-map Done x
-  ends-map Usage x = whole-map Usage x
-  ends-map FileRefused x = whole-map FileRefused x
-  ends-map ScheduleRefused x = whole-map ScheduleRefused x
-  ends-map ReadFault x = fails x
-  ends-map WriteFault x = partly-map x
-  ends-map NoMemory x = partly-map x
-
-module _ (file : Text) (verdict : NumberedProtocol → Status → Text → Type 0) (protocol : NumberedProtocol) (has : HasProtocol file protocol) where
-  -- the run ends as the verdict on the file says where it ends as the one on its protocol does
-  pub ends-checked : (fault more : Type 0) → (fault → more) → (before : Text) (now : Option Text) (answer : Status) → Ends (verdict protocol) fault before now answer → Ends (CheckedVerdict file verdict) more before now answer
-  ends-checked fault more fails before now answer x =
-      ends-map (verdict protocol) (CheckedVerdict file verdict) (λ status text v. inr (protocol, has, v)) (λ status text v. verdict-of-protocol file verdict protocol status text has v)
-      fault more fails before now answer x
-
-  pub exact-checked : (answer : Status) → ((status : Status) (text : Text) → verdict protocol status text → IsOrFails status answer)
-      → (status : Status) (text : Text) → CheckedVerdict file verdict status text → IsOrFails status answer
-  exact-checked answer x status text v = x status text (verdict-of-protocol file verdict protocol status text has v)
+  pub done-left : (mid now : Option Text) (replayed : Replayed)
+      → StopsSo play limits start schedule left replayed → Concludes mid now replayed Done
+      → left ≡ Some []
+  done-left mid now replayed stops w =
+      let d = decided-replay mid now replayed Done stops w tt in
+      whole-left (played play limits start schedule).stop d.0 d.1
 
 -- a schedule that a run is done with was read to its end, also where it doesn't tell its bytes
-pub end-of-schedule : (most : ℕ) (old new : Option Text) → TakesAtMost most old new → IfSome old (λ schedule. new ≡ Some []) → IsAtEnd new
+pub end-of-schedule : (most : ℕ) (old new : Option Text) → TakesAtMost most old new
+    → IfSome old (λ schedule. new ≡ Some []) → IsAtEnd new
 end-of-schedule most None None taken whole = tt
 end-of-schedule most None (Some rest) taken whole = absurd (cc taken.2)
 end-of-schedule most (Some schedule) new taken whole = subst IsAtEnd (sym whole) refl
+
+-- only a replay that is done gives Done
+done-replay : (r : Replayed) → status_by r ≡ Done → r ≡ replay.Done
+done-replay replay.Done e = refl
+done-replay (replay.BadLine line) e = absurd (cc)
+done-replay replay.TooManyLines e = absurd (cc)
+done-replay (replay.ClaimBroken claim) e = absurd (cc)
+done-replay replay.ReadFault e = absurd (cc)
+done-replay replay.WriteFault e = absurd (cc)
+done-replay replay.NoMemory e = absurd (cc)
+
+pub concluded-done : (old new : Option Text) (replayed : Replayed) (answer : Status)
+    → Concludes old new replayed answer → answer ≡ Done → replayed ≡ replay.Done
+concluded-done old new replayed answer w =
+    by-conclusion (λ r s. s ≡ Done → r ≡ replay.Done) done-replay
+    (λ r e. (λ f. absurd (cc), λ f. absurd (cc))) old new replayed answer w
+
+-- a status that is decided in the schedule is decided
+pub of-schedule-decided : (answer : Status) → IsOfSchedule answer → IsDecided answer
+of-schedule-decided answer e = subst DecidedKind (sym e) tt

@@ -1,127 +1,189 @@
 -- How a run ends, and what it leaves in the sink and in its sources.
-use Rattle.std.specs.Prelude.{◌≡◌, ◌⊎◌, ℕ, [], ◌++◌, take, Option, Some, None}
+use Rattle.std.specs.Prelude.{◌≡◌, ◌⊎◌, ℕ, ◌+◌, Bool, true, false, ◌++◌, take, Option, Some, IfSome}
 use Rattle.proto_model.specs.Tokens.{Text}
-use Rattle.proto_model.specs.Numbered.{NumberedProtocol}
 use Rattle.rv_base.specs.Outside.{Rose}
-use Rattle.schedule_replay.specs.Scheduled.{Stop, Whole as WholeSchedule, AtLine, TooMany}
-use Rattle.schedule_replay.specs.RvTrace.{rv_play, rv_standing, rv_schedule}
-use Rattle.schedule_replay.specs.Replayed.{WritesSo, TakesFew, line_decides, count_decides}
-use Rattle.schedule_replay.specs.declared.replaying.Replayed.TheVariants.{ReadFault as ReplayReadFault}
-use Rattle.rvc_top.specs.Words.{ReadsFile, ReadsSchedule}
-use Rattle.rvc_top.specs.Verdict.{HasProtocol}
-use Rattle.rvc_top.specs.declared.command.Command.{Command}
-use Rattle.rvc_top.specs.declared.command.Command.TheVariants.{Print, Check, Rv, TableText, TableJson, Example as ExampleText}
+use Rattle.schedule_replay.specs.Limits.{most_taken}
+use Rattle.schedule_replay.specs.Replayed.{LeavesAt}
+use Rattle.rvc_top.specs.Commands.{Task, Writes, Reads, Replays}
 use Rattle.rvc_top.specs.declared.status.Status.{Status}
-use Rattle.rvc_top.specs.declared.status.Status.TheVariants.{Done, Usage, FileRefused, ScheduleRefused, ReadFault, WriteFault, NoMemory}
+use Rattle.rvc_top.specs.declared.status.Status.TheVariants.{Done, Usage, FileRefused}
+use Rattle.rvc_top.specs.declared.status.Status.TheVariants.{ScheduleRefused, ReadFault, WriteFault}
+use Rattle.rvc_top.specs.declared.status.Status.TheVariants.{NoMemory, ClaimBroken}
+
+-- ---- kinds of status
+
+-- How far a run gets until its status is decided: to its words, to its file, into its schedule, or
+-- to its end.
+pub data Reach : Type 0 where
+  AtWords : Reach
+  AtFile : Reach
+  AtSchedule : Reach
+  AtEnd : Reach
+
+-- What a status comes of: the words, the file and the schedule decide it; a source failed; the sink
+-- failed; or memory was wanting.
+pub data Kind : Type 0 where
+  Decided : Reach → Kind
+  ReadFailed : Kind
+  WriteFailed : Kind
+  Wanting : Kind
+
+-- what each status comes of
+abbrev pub kind_of : Status → Kind
+kind_of Done = Decided AtEnd
+kind_of Usage = Decided AtWords
+kind_of FileRefused = Decided AtFile
+kind_of ScheduleRefused = Decided AtSchedule
+kind_of ClaimBroken = Decided AtSchedule
+kind_of ReadFault = ReadFailed
+kind_of WriteFault = WriteFailed
+kind_of NoMemory = Wanting
+
+-- the words, the file or the schedule decide it
+abbrev pub DecidedKind : Kind → Type 0
+DecidedKind (Decided reach) = Unit {0}
+DecidedKind ReadFailed = ⊥
+DecidedKind WriteFailed = ⊥
+DecidedKind Wanting = ⊥
 
 -- The status of a verdict: the words, the file and the schedule decide it, and no fault does.
 abbrev pub IsDecided : Status → Type 0
-IsDecided Done = Unit {0}
-IsDecided Usage = Unit {0}
-IsDecided FileRefused = Unit {0}
-IsDecided ScheduleRefused = Unit {0}
-IsDecided ReadFault = ⊥
-IsDecided WriteFault = ⊥
-IsDecided NoMemory = ⊥
+IsDecided status = DecidedKind (kind_of status)
 
--- the status of a verdict of a command that uses the file alone
-abbrev pub IsFileEnd : Status → Type 0
-IsFileEnd status = (status ≡ Done) ⊎ (status ≡ FileRefused)
+-- The status is decided in the schedule: it is refused, or a claim is broken, before its first line
+-- or as it is played.
+abbrev pub IsOfSchedule : Status → Type 0
+IsOfSchedule status = kind_of status ≡ Decided AtSchedule
+
+-- a source failed
+abbrev pub read_failed : Kind → Bool
+read_failed (Decided reach) = false
+read_failed ReadFailed = true
+read_failed WriteFailed = false
+read_failed Wanting = false
+
+-- the sink failed
+abbrev pub write_failed : Kind → Bool
+write_failed (Decided reach) = false
+write_failed ReadFailed = false
+write_failed WriteFailed = true
+write_failed Wanting = false
+
+-- ---- what the sink has taken
 
 -- What was taken before is now followed by the text of the verdict with this status.
 abbrev pub Whole : (Status → Text → Type 0) → Text → Option Text → Status → Type 0
-Whole verdict before now status = (text : Text) × verdict status text × (now ≡ Some (before ++ text))
+Whole verdict before now status =
+    (text : Text) × verdict status text × (now ≡ Some (before ++ text))
 
 -- What was taken before is now followed by a front of the verdict's text.
 abbrev pub Partly : (Status → Text → Type 0) → Text → Option Text → Type 0
-Partly verdict before now = (status : Status) (text : Text) → verdict status text → (count : ℕ) × (now ≡ Some (before ++ take count text))
+Partly verdict before now =
+    (status : Status) (text : Text) → verdict status text
+    → (count : ℕ) × (now ≡ Some (before ++ take count text))
+
+-- the same by the kind of the status
+abbrev pub EndsBy : Kind → (Status → Text → Type 0) → Type 0 → Text → Option Text → Status → Type 0
+EndsBy (Decided reach) verdict fault before now status = Whole verdict before now status
+EndsBy ReadFailed verdict fault before now status = fault
+EndsBy WriteFailed verdict fault before now status = Partly verdict before now
+EndsBy Wanting verdict fault before now status = Partly verdict before now
 
 -- What the sink took before and has taken now, where the run ends so: after the status of a verdict
--- its text is written, after a read fault what is said here, after a write fault or want of memory a
--- front of the verdict's text.
+-- its text is written, after a read fault what is said here, after a write fault or want of memory
+-- a front of the verdict's text.
 abbrev pub Ends : (Status → Text → Type 0) → Type 0 → Text → Option Text → Status → Type 0
-Ends verdict fault before now Done = Whole verdict before now Done
-Ends verdict fault before now Usage = Whole verdict before now Usage
-Ends verdict fault before now FileRefused = Whole verdict before now FileRefused
-Ends verdict fault before now ScheduleRefused = Whole verdict before now ScheduleRefused
-Ends verdict fault before now ReadFault = fault
-Ends verdict fault before now WriteFault = Partly verdict before now
-Ends verdict fault before now NoMemory = Partly verdict before now
-
--- What a read fault of the schedule leaves, of which this is left, in the sink: it comes only where the
--- file has a protocol, and exactly the blocks of the lines whose LF was taken are written. What was
--- taken holds no LF of a malformed line, no byte 257 of a line and no byte of line 1,000,001.
-abbrev pub ScheduleFaultLeaves : Option Command → Text → Text → Option Text → Text → Option Text → Type 0
-ScheduleFaultLeaves None file schedule left before now = ⊥
-ScheduleFaultLeaves (Some Print) file schedule left before now = ⊥
-ScheduleFaultLeaves (Some Check) file schedule left before now = ⊥
-ScheduleFaultLeaves (Some (TableText mode)) file schedule left before now = ⊥
-ScheduleFaultLeaves (Some (TableJson mode)) file schedule left before now = ⊥
-ScheduleFaultLeaves (Some (ExampleText which)) file schedule left before now = ⊥
-ScheduleFaultLeaves (Some (Rv n)) file schedule left before now =
-    (protocol : NumberedProtocol) × HasProtocol file protocol × WritesSo rv_play (rv_standing protocol n) schedule left before now ReplayReadFault
-
--- What a read fault leaves in the sink, by the count of the file's faults before and after. Where it
--- rose, the file failed and nothing is written. Else the schedule failed.
-abbrev pub FaultLeaves : Option Command → ℕ → ℕ → Text → Text → Option Text → Text → Option Text → Type 0
-FaultLeaves command count_before count_now file schedule left before now =
-    (Rose count_before count_now × (now ≡ Some before))
-    ⊎ ((count_now ≡ count_before) × ScheduleFaultLeaves command file schedule left before now)
-
--- A schedule that stops so was refused, and of its text this is left: at most 255 bytes past the
--- deciding one were taken, and all where there is none. The deciding byte is the LF of the refused
--- line, its byte 257 where it has more than 256 bytes, or the first byte of line 1,000,001.
-abbrev pub RefusedWithin : Stop → Text → Option Text → Type 0
-RefusedWithin WholeSchedule schedule left = ⊥
-RefusedWithin (AtLine line) schedule left = TakesFew (line_decides line schedule) schedule left
-RefusedWithin TooMany schedule left = TakesFew (count_decides schedule) schedule left
-
--- the same by the command that reads the schedule
-abbrev pub ScheduleRefusal : Option Command → Text → Option Text → Type 0
-ScheduleRefusal None schedule left = ⊥
-ScheduleRefusal (Some Print) schedule left = ⊥
-ScheduleRefusal (Some Check) schedule left = ⊥
-ScheduleRefusal (Some (TableText mode)) schedule left = ⊥
-ScheduleRefusal (Some (TableJson mode)) schedule left = ⊥
-ScheduleRefusal (Some (ExampleText which)) schedule left = ⊥
-ScheduleRefusal (Some (Rv n)) schedule left = RefusedWithin (rv_schedule schedule).stop schedule left
+Ends verdict fault before now status = EndsBy (kind_of status) verdict fault before now status
 
 -- The answer is this status, or a source or the sink failed, or there was no memory.
 abbrev pub IsOrFails : Status → Status → Type 0
-IsOrFails status answer = (answer ≡ status) ⊎ (answer ≡ ReadFault) ⊎ (answer ≡ WriteFault) ⊎ (answer ≡ NoMemory)
+IsOrFails status answer =
+    (answer ≡ status) ⊎ (answer ≡ ReadFault) ⊎ (answer ≡ WriteFault) ⊎ (answer ≡ NoMemory)
 
--- The verdict's status is the answer, but for a fault of a source or of the sink, or want of memory.
+-- The verdict's status is the answer, but for a fault of a source or of the sink, or want of
+-- memory.
 abbrev pub AnswersOrFails : (Status → Text → Type 0) → Status → Type 0
-AnswersOrFails verdict answer = (status : Status) (text : Text) → verdict status text → IsOrFails status answer
+AnswersOrFails verdict answer =
+    (status : Status) (text : Text) → verdict status text → IsOrFails status answer
 
 -- The verdict's status is the answer, but for want of memory.
 abbrev pub Answers : (Status → Text → Type 0) → Status → Type 0
-Answers verdict answer = (status : Status) (text : Text) → verdict status text → (answer ≡ status) ⊎ (answer ≡ NoMemory)
+Answers verdict answer =
+    (status : Status) (text : Text) → verdict status text → (answer ≡ status) ⊎ (answer ≡ NoMemory)
 
--- what is left of the schedule that a replay stops at so, where the run ends with this answer
-abbrev pub ScheduleLeft : Stop → Text → Option Text → Status → Type 0
-ScheduleLeft stop schedule left Done = left ≡ Some []
-ScheduleLeft stop schedule left Usage = Unit {0}
-ScheduleLeft stop schedule left FileRefused = Unit {0}
-ScheduleLeft stop schedule left ScheduleRefused = RefusedWithin stop schedule left
-ScheduleLeft stop schedule left ReadFault = Unit {0}
-ScheduleLeft stop schedule left WriteFault = Unit {0}
-ScheduleLeft stop schedule left NoMemory = Unit {0}
+-- ---- what is read
 
--- a run that replays a schedule ends so
-abbrev pub IsReplayEnd : Status → Type 0
-IsReplayEnd Done = Unit {0}
-IsReplayEnd Usage = ⊥
-IsReplayEnd FileRefused = ⊥
-IsReplayEnd ScheduleRefused = Unit {0}
-IsReplayEnd ReadFault = Unit {0}
-IsReplayEnd WriteFault = Unit {0}
-IsReplayEnd NoMemory = Unit {0}
+-- The file is read.
+abbrev pub ReadsFile : Task → Type 0
+ReadsFile (Writes said) = ⊥
+ReadsFile (Reads Value form says) = Unit {0}
+ReadsFile (Replays Value form limits replay) = Unit {0}
+
+-- The schedule is read.
+abbrev pub ReadsSchedule : Task → Type 0
+ReadsSchedule (Writes said) = ⊥
+ReadsSchedule (Reads Value form says) = ⊥
+ReadsSchedule (Replays Value form limits replay) = Unit {0}
+
+-- The most bytes that are taken of the file: one more than it may have.
+abbrev pub most_of_file : Task → ℕ
+most_of_file (Writes said) = 0
+most_of_file (Reads Value form says) = form.limit + 1
+most_of_file (Replays Value form limits replay) = form.limit + 1
+
+-- The most bytes that are taken of the schedule.
+abbrev pub most_of_schedule : Task → ℕ
+most_of_schedule (Writes said) = 0
+most_of_schedule (Reads Value form says) = 0
+most_of_schedule (Replays Value form limits replay) = most_taken limits
+
+-- This is so of the file and of the schedule, where each tells its bytes that is read; of what is
+-- not read it is so whatever it holds.
+abbrev pub WhereTold : Task → Option Text → Option Text → (Text → Text → Type 0) → Type 0
+WhereTold (Writes said) file schedule fact = (f s : Text) → fact f s
+WhereTold (Reads Value form says) file schedule fact = IfSome file (λ f. (s : Text) → fact f s)
+WhereTold (Replays Value form limits replay) file schedule fact =
+    IfSome file (λ f. IfSome schedule (λ s. fact f s))
+
+-- The file is refused.
+abbrev pub RefusesFile : Task → Text → Type 0
+RefusesFile (Writes said) file = ⊥
+RefusesFile (Reads Value form says) file = (text : Text) × form.Refuses file text
+RefusesFile (Replays Value form limits replay) file = (text : Text) × form.Refuses file text
+
+-- ---- what a read fault leaves
+
+-- What a read fault of the schedule leaves in the sink, where this is left of the schedule: it
+-- comes only where the file holds a value.
+abbrev pub ScheduleFaultLeaves : Task → Text → Text → Option Text → Text → Option Text → Type 0
+ScheduleFaultLeaves (Writes said) file schedule left before now = ⊥
+ScheduleFaultLeaves (Reads Value form says) file schedule left before now = ⊥
+ScheduleFaultLeaves (Replays Value form limits replay) file schedule left before now =
+    (value : Value) × form.Holds file value × (replay value).Leaves schedule left before now
+
+-- What a read fault leaves in the sink, by the count of the file's faults before and after. Where
+-- it rose, the file failed and nothing is written. Else the schedule failed.
+abbrev pub FaultLeaves : Task → ℕ → ℕ → Text → Text → Option Text → Text → Option Text → Type 0
+FaultLeaves task count_before count_now file schedule left before now =
+    (Rose count_before count_now × (now ≡ Some before))
+    ⊎ ((count_now ≡ count_before) × ScheduleFaultLeaves task file schedule left before now)
 
 -- Whose fault a read fault is, by the counts of the file and of the schedule before and after: the
 -- file's, which the command reads and whose count rose, and then the run has not gone on; or the
 -- schedule's, which the command reads, and the file's count stayed.
-abbrev pub FaultIsOf : Option Command → ℕ → ℕ → ℕ → ℕ → Type 0 → Type 0
-FaultIsOf command file_before file_now schedule_before schedule_now stopped =
-    (ReadsFile command × Rose file_before file_now × stopped)
-    ⊎ ((file_now ≡ file_before) × ReadsSchedule command × Rose schedule_before schedule_now)
+abbrev pub FaultIsOf : Task → ℕ → ℕ → ℕ → ℕ → Type 0 → Type 0
+FaultIsOf task file_before file_now schedule_before schedule_now stopped =
+    (ReadsFile task × Rose file_before file_now × stopped)
+    ⊎ ((file_now ≡ file_before) × ReadsSchedule task × Rose schedule_before schedule_now)
+
+-- ---- what is left of a schedule
+
+-- A status that is decided in the schedule is the one that is said of it by some value, one that the
+-- file holds where it tells its bytes, and few bytes past the one that decides so were taken.
+abbrev pub DecidesSchedule : Task → Option Text → Option Text → Option Text → Status → Type 0
+DecidesSchedule (Writes said) file schedule left status = ⊥
+DecidesSchedule (Reads Value form says) file schedule left status = ⊥
+DecidesSchedule (Replays Value form limits replay) file schedule left status =
+    (value : Value) × IfSome file (λ f. form.Holds f value)
+    × IfSome schedule (λ s. (status ≡ ((replay value).says s).status)
+    × LeavesAt limits ((replay value).stop s) s left)

@@ -1,7 +1,10 @@
 pub mod Examples
 pub mod Words
+pub mod Texts
+pub mod Forms
+pub mod Commands
 pub mod Verdict
 pub mod Endings
+pub mod Runs
 pub mod FileRead
 pub mod Reply
-pub mod Replay

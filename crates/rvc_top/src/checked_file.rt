@@ -1,10 +1,11 @@
 //! The protocol file, read to its end and as the well-formed protocol that it spells, or refused.
 
-ghost use Rattle.std.specs.Prelude.{◌≡◌, length, IfOk, IfSome};
+ghost use Rattle.std.specs.Prelude.{◌≡◌, ◌+◌, length, IfOk, IfSome};
 ghost use Rattle.proto_model.specs.Faults.{item_codes};
-ghost use Rattle.rv_base.specs.Whole.{TakesAtMost};
-ghost use Rattle.rvc_top.specs.FileRead.{ChecksFile, ChecksProtocol, EndsCheckedFile};
-ghost use Rattle.rvc_top.specs.Reply.{Counts};
+ghost use Rattle.rv_base.specs.Whole.{TakesAtMost, file_limit};
+ghost use Rattle.schedule_replay.specs.Replayed.{RisesWhere};
+ghost use Rattle.rvc_top.specs.FileRead.{IsChecked, IsJudged, CheckedToEnd};
+ghost use Rattle.rvc_top.specs.Reply.{reading_failed};
 
 use crate::file::{FileRead, fault_on, read_file};
 use crate::reply::Fault;
@@ -25,21 +26,22 @@ pub enum CheckedFile {
 /// Reads the protocol file to its end, or to one byte past the limit of a file, and checks the
 /// protocol that it spells.
 pub fn check_file<P: Source>(alloc: Global, protocol: &mut P) -> Result<CheckedFile, Fault>
-    ensures bytes { IfSome (P.left protocol.old) (λ file. IfOk result (ChecksFile file)) }
-    ensures end { IfOk result (EndsCheckedFile (P.left protocol.new)) }
-    ensures taken { TakesAtMost 65537 (P.left protocol.old) (P.left protocol.new) }
-    ensures cause { Counts (P.faults protocol.old) (P.faults protocol.new) result }
+    ensures bytes { IfSome (P.left protocol.old) (λ file. IfOk result (IsChecked file)) }
+    ensures end { IfOk result (CheckedToEnd (P.left protocol.new) (P.ended protocol.new)) }
+    ensures taken { TakesAtMost (file_limit + 1) (P.left protocol.old) (P.left protocol.new) }
+    ensures count { RisesWhere (reading_failed result)
+        (P.faults protocol.old) (P.faults protocol.new) }
 {
     match read_file(alloc, protocol)? {
-        FileRead::Spelled(spelled) => Ok(checked(alloc, spelled)?),
+        FileRead::Spelled(spelled) => Ok(check_spelled(alloc, spelled)?),
         FileRead::Refused(text) => Ok(CheckedFile::Refused(text)),
     }
 }
 
-// What the protocol whose items begin on these lines comes to.
-fn checked(alloc: Global, spelled: Spelled) -> Result<CheckedFile, NoMemory>
+/// What the protocol that a file spells, with the lines of its items, comes to.
+pub fn check_spelled(alloc: Global, spelled: Spelled) -> Result<CheckedFile, NoMemory>
     requires { length spelled.lines ≡ length (item_codes spelled.protocol) }
-    ensures { IfOk result (ChecksProtocol spelled.protocol spelled.lines) }
+    ensures { IfOk result (IsJudged spelled.protocol spelled.lines) }
 {
     let Spelled { protocol, lines } = spelled;
     match check(alloc, protocol) {

@@ -1,7 +1,8 @@
 //! The words of the command line.
 
 ghost use Rattle.std.specs.Prelude.{◌≡◌, ◌≤◌, map, string_bytes, IfSome};
-ghost use Rattle.rvc_top.specs.Words.{meaning, remotes_of, mode_of, example_of, IsCommand};
+ghost use Rattle.rvc_top.specs.Words.{meaning, remotes_of, mode_of, example_of};
+ghost use Rattle.rvc_top.specs.Commands.{describe};
 
 use crate::Example;
 use proto_model::Mode;
@@ -62,7 +63,7 @@ fn example_in(word: &str) -> Option<Example>
 /// Takes no memory.
 pub fn words_mean(words: &[String]) -> Option<Command>
     ensures means { result ≡ meaning (map string_bytes words.now) }
-    ensures limits { IfSome result IsCommand }
+    ensures limits { (describe result).Numbers }
 {
     match words {
         [name, _path] if name.as_str() == "print" => Some(Command::Print),

@@ -1,14 +1,15 @@
 //! The protocol file, read to its end and as the protocol that it spells, or refused.
 
-ghost use Rattle.std.specs.Prelude.{◌≡◌, IfOk, IfSome};
-ghost use Rattle.rv_base.specs.Whole.{TakesAtMost};
-ghost use Rattle.rvc_top.specs.Verdict.{too_long_text, fault_text};
-ghost use Rattle.rvc_top.specs.FileRead.{ReadsFile, HasLines, EndsFile};
-ghost use Rattle.rvc_top.specs.Reply.{Counts};
+ghost use Rattle.std.specs.Prelude.{◌≡◌, ◌+◌, IfOk, IfSome};
+ghost use Rattle.rv_base.specs.Whole.{TakesAtMost, file_limit};
+ghost use Rattle.schedule_replay.specs.Replayed.{RisesWhere};
+ghost use Rattle.rvc_top.specs.Texts.{too_long_text, fault_text};
+ghost use Rattle.rvc_top.specs.FileRead.{IsRead, HasLines, ReadToEnd};
+ghost use Rattle.rvc_top.specs.Reply.{reading_failed};
 
 use crate::reply::Fault;
 use protocol_reader::{ReadError, Spelled, read};
-use rv_base::{Gathered, NoMemory, Source, read_whole};
+use rv_base::{FILE_LIMIT, Gathered, NoMemory, Source, read_whole};
 use std::alloc::Global;
 
 // The code of a file that spells no protocol.
@@ -25,13 +26,14 @@ pub enum FileRead {
 
 /// Reads the protocol file to its end, or to one byte past the limit of a file.
 pub fn read_file<P: Source>(alloc: Global, protocol: &mut P) -> Result<FileRead, Fault>
-    ensures bytes { IfSome (P.left protocol.old) (λ file. IfOk result (ReadsFile file)) }
+    ensures bytes { IfSome (P.left protocol.old) (λ file. IfOk result (IsRead file)) }
     ensures lines { IfOk result HasLines }
-    ensures end { IfOk result (EndsFile (P.left protocol.new)) }
-    ensures taken { TakesAtMost 65537 (P.left protocol.old) (P.left protocol.new) }
-    ensures cause { Counts (P.faults protocol.old) (P.faults protocol.new) result }
+    ensures end { IfOk result (ReadToEnd (P.left protocol.new) (P.ended protocol.new)) }
+    ensures taken { TakesAtMost (file_limit + 1) (P.left protocol.old) (P.left protocol.new) }
+    ensures count { RisesWhere (reading_failed result)
+        (P.faults protocol.old) (P.faults protocol.new) }
 {
-    match read_whole(alloc, protocol) {
+    match read_whole(alloc, protocol, FILE_LIMIT) {
         Gathered::Whole(bytes) => Ok(file_of(alloc, &bytes)?),
         Gathered::TooLong => Ok(FileRead::Refused(too_long(alloc)?)),
         Gathered::Failed => Err(Fault::Read),
@@ -41,7 +43,7 @@ pub fn read_file<P: Source>(alloc: Global, protocol: &mut P) -> Result<FileRead,
 
 // What the bytes of the file are.
 fn file_of(alloc: Global, bytes: &[u8]) -> Result<FileRead, NoMemory>
-    ensures reads { IfOk result (ReadsFile bytes.now) }
+    ensures reads { IfOk result (IsRead bytes.now) }
     ensures lines { IfOk result HasLines }
 {
     match read(alloc, bytes) {

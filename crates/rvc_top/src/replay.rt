@@ -1,32 +1,64 @@
-//! How a run ends with its replay.
+//! A schedule is replayed on a machine, and the run ends with it.
 
-ghost use Rattle.std.specs.Prelude.{◌≡◌, ◌≤◌, IfOk};
-ghost use Rattle.rv_base.specs.Outside.{Rose};
-ghost use Rattle.rvc_top.specs.Verdict.{bad_line_text};
-ghost use Rattle.rvc_top.specs.Reply.{Delivers};
-ghost use Rattle.rvc_top.specs.Replay.{Concludes};
+ghost use Rattle.std.specs.Prelude.{◌≡◌, ◌⊎◌, ◌<◌, ◌^◌, false, not, ◌&&◌, IfOk};
+ghost use Rattle.schedule_replay.specs.Replayed.{RisesWhere, is_write_fault};
+ghost use Rattle.rvc_top.specs.Texts.{bad_line_text};
+ghost use Rattle.rvc_top.specs.Commands.{played_so};
+ghost use Rattle.rvc_top.specs.Endings.{IsDecided, kind_of, write_failed};
+ghost use Rattle.rvc_top.specs.Reply.{Delivers, Concludes};
+ghost use Rattle.rvc_top.specs.Runs.{IsReplay, seen};
 
 use crate::Status;
 use crate::reply::deliver;
-use rv_base::{NoMemory, Sink};
-use schedule_replay::Replayed;
+use rv_base::{NoMemory, Sink, Source};
+use schedule_replay::{Limits, Player, Replayed, play_schedule};
 use std::alloc::Global;
 
 const TOO_MANY: &[u8] = b"error schedule too long\n";
 
-// The text for a schedule whose line with this number is malformed or too long.
-fn bad_line(alloc: Global, line: u32) -> Result<Vec<u8>, NoMemory>
-    ensures { IfOk result (λ text. text.items ≡ bad_line_text line) }
+/// Replays the schedule on the machine, and writes its trace; says so in `out` where the schedule
+/// is refused. Answers how the run ends. A line within the limits has fewer than 2^32 bytes.
+pub fn replay<M: Player, Q: Source, O: Sink>(
+    alloc: Global,
+    limits: Limits,
+    machine: &mut M,
+    schedule: &mut Q,
+    out: &mut O,
+) -> Status
+    requires { limits.line < 2 ^ 32 }
+    ensures { IsReplay (played_so M.play limits machine.old) limits
+        (seen Q.left Q.faults Q.ended schedule.old schedule.new)
+        (seen O.taken O.faults O.refused out.old out.new) result }
 {
-    let text = format!(in alloc; "error schedule line {line}\n")?;
-    Ok(text.into_bytes())
+    let replayed = play_schedule(alloc, limits, machine, schedule, out);
+    conclude(alloc, replayed, out)
+}
+
+// How the run ends whose replay ended so. Where the schedule is refused, says so in `out`.
+fn conclude<O: Sink>(alloc: Global, replayed: Replayed, out: &mut O) -> Status
+    ensures bytes { Concludes (O.taken out.old) (O.taken out.new) replayed result }
+    ensures counts { RisesWhere (not (is_write_fault replayed) && write_failed (kind_of result))
+        (O.faults out.old) (O.faults out.new) }
+    ensures written { IsDecided result → (out.new ≡ out.old) ⊎ (O.refused out.new ≡ false) }
+{
+    match replayed {
+        Replayed::Done => Status::Done,
+        Replayed::BadLine(line) => refuse_line(alloc, line, out),
+        Replayed::TooManyLines => deliver(out, Status::ScheduleRefused, TOO_MANY),
+        Replayed::ClaimBroken(_) => Status::ClaimBroken,
+        Replayed::ReadFault => Status::ReadFault,
+        Replayed::WriteFault => Status::WriteFault,
+        Replayed::NoMemory => Status::NoMemory,
+    }
 }
 
 // Writes that the line is refused.
 fn refuse_line<O: Sink>(alloc: Global, line: u32, out: &mut O) -> Status
-    ensures bytes { Delivers (O.taken out.old) (O.taken out.new) (bad_line_text line) Status.ScheduleRefused result }
-    ensures cause { result ≡ Status.WriteFault → Rose (O.faults out.old) (O.faults out.new) }
-    ensures count { O.faults out.old ≤ O.faults out.new }
+    ensures bytes { Delivers (O.taken out.old) (O.taken out.new)
+        (bad_line_text line) Status.ScheduleRefused result }
+    ensures counts { RisesWhere (write_failed (kind_of result))
+        (O.faults out.old) (O.faults out.new) }
+    ensures written { IsDecided result → (out.new ≡ out.old) ⊎ (O.refused out.new ≡ false) }
 {
     match bad_line(alloc, line) {
         Ok(text) => deliver(out, Status::ScheduleRefused, &text),
@@ -34,18 +66,10 @@ fn refuse_line<O: Sink>(alloc: Global, line: u32, out: &mut O) -> Status
     }
 }
 
-/// Answers how the run ends whose replay ended so. Where the schedule is refused, says so in `out`.
-pub fn conclude<O: Sink>(alloc: Global, replayed: Replayed, out: &mut O) -> Status
-    ensures bytes { Concludes (O.taken out.old) (O.taken out.new) replayed result }
-    ensures cause { result ≡ Status.WriteFault → (replayed ≡ Replayed.WriteFault → ⊥) → Rose (O.faults out.old) (O.faults out.new) }
-    ensures count { O.faults out.old ≤ O.faults out.new }
+// The text for a schedule whose line with this number is malformed or too long.
+fn bad_line(alloc: Global, line: u32) -> Result<Vec<u8>, NoMemory>
+    ensures { IfOk result (λ text. text.items ≡ bad_line_text line) }
 {
-    match replayed {
-        Replayed::Done => Status::Done,
-        Replayed::BadLine(line) => refuse_line(alloc, line, out),
-        Replayed::TooManyLines => deliver(out, Status::ScheduleRefused, TOO_MANY),
-        Replayed::ReadFault => Status::ReadFault,
-        Replayed::WriteFault => Status::WriteFault,
-        Replayed::NoMemory => Status::NoMemory,
-    }
+    let text = format!(in alloc; "error schedule line {line}\n")?;
+    Ok(text.into_bytes())
 }

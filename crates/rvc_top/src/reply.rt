@@ -1,9 +1,9 @@
 //! A text to be written, and how a run ends with it.
 
-ghost use Rattle.std.specs.Prelude.{◌≡◌, ◌≤◌};
+ghost use Rattle.std.specs.Prelude.{◌≡◌, ◌⊎◌, false};
 ghost use Rattle.std.specs.Result.{ForOk};
-ghost use Rattle.rv_base.specs.Outside.{Rose};
-ghost use Rattle.rvc_top.specs.Endings.{IsDecided};
+ghost use Rattle.schedule_replay.specs.Replayed.{RisesWhere};
+ghost use Rattle.rvc_top.specs.Endings.{IsDecided, kind_of, write_failed};
 ghost use Rattle.rvc_top.specs.Reply.{Delivers, Finishes};
 ghost use Rattle.rvc_top.specs.declared.reply.Fault.TheVariants as fault;
 
@@ -39,8 +39,9 @@ impl From<NoMemory> for Fault {
 pub fn deliver<O: Sink>(out: &mut O, status: Status, text: &[u8]) -> Status
     requires { IsDecided status }
     ensures bytes { Delivers (O.taken out.old) (O.taken out.new) text.now status result }
-    ensures cause { result ≡ Status.WriteFault → Rose (O.faults out.old) (O.faults out.new) }
-    ensures count { O.faults out.old ≤ O.faults out.new }
+    ensures counts { RisesWhere (write_failed (kind_of result))
+        (O.faults out.old) (O.faults out.new) }
+    ensures written { IsDecided result → (out.new ≡ out.old) ⊎ (O.refused out.new ≡ false) }
 {
     match write_whole(out, text) {
         Wrote::Whole => status,
@@ -53,8 +54,9 @@ pub fn deliver<O: Sink>(out: &mut O, status: Status, text: &[u8]) -> Status
 pub fn finish<O: Sink>(out: &mut O, reply: Result<Reply, Fault>) -> Status
     requires { ForOk reply (λ r. IsDecided r.status) }
     ensures bytes { Finishes (O.taken out.old) (O.taken out.new) reply result }
-    ensures cause { result ≡ Status.WriteFault → Rose (O.faults out.old) (O.faults out.new) }
-    ensures count { O.faults out.old ≤ O.faults out.new }
+    ensures counts { RisesWhere (write_failed (kind_of result))
+        (O.faults out.old) (O.faults out.new) }
+    ensures written { IsDecided result → (out.new ≡ out.old) ⊎ (O.refused out.new ≡ false) }
 {
     match reply {
         Ok(reply) => deliver(out, reply.status, &reply.text),

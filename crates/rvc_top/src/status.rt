@@ -3,16 +3,16 @@
 /// How a run ends. The number of each way is the exit status of the program.
 #[derive(Clone, Copy, Debug, PartialEq, Eq)]
 pub enum Status {
-    /// All that the words ask for is written, and the sources that their command uses were read to
-    /// their end.
+    /// All that the words ask for is written, and the last read of each source that their command
+    /// uses answered that nothing is left.
     Done = 0,
     /// The words have no form. No source was read, and `error usage` is written.
     Usage = 1,
-    /// The protocol file has more than 65,536 bytes, or it spells no protocol. The text that says so
-    /// is written.
+    /// The protocol file has more bytes than a file may have, or it spells no protocol that the
+    /// command takes. The text that says so is written, and the schedule was not read.
     FileRefused = 2,
-    /// The schedule has a malformed line, one of more than 256 bytes, or more than 1,000,000 lines. The
-    /// trace of the lines before is written, and the text that says so.
+    /// The schedule has a malformed line, one that is too long, or too many lines. The trace of the
+    /// lines before is written, and the text that says so.
     ScheduleRefused = 3,
     /// A source that the command uses failed. Nothing is written after it.
     ReadFault = 4,
@@ -20,4 +20,8 @@ pub enum Status {
     WriteFault = 5,
     /// There was no memory. A front of what the run would have written is written.
     NoMemory = 6,
+    /// A claim of the file is broken as the schedule is played. The trace up to there is written,
+    /// the line that names the claim, and the last text. No run ends so yet, since no file can say
+    /// a claim yet.
+    ClaimBroken = 7,
 }

@@ -6,4 +6,6 @@ use Rattle.rvc_top.proofs.replay.refuse_line.Goals as goal
 
 pub returns-in-Ok-clause-bytes : goal.returns-in-Ok-clause-bytes
 returns-in-Ok-clause-bytes g c =
-    subst (λ (text : List ℕ). Delivers (g.O.Sink.taken c.args.out.now) (g.O.Sink.taken c.deliver.new.out) text ScheduleRefused c.deliver.result) (c.deref.ensures.value ∙ c.in-Ok.ensures) c.deliver.ensures.bytes
+    subst (λ (text : List ℕ). Delivers (g.O.Sink.taken c.args.out.now)
+    (g.O.Sink.taken c.deliver.new.out) text ScheduleRefused c.deliver.result)
+    (c.deref.ensures.value ∙ c.in-Ok.ensures) c.deliver.ensures.bytes

@@ -1,51 +1,51 @@
 -- The run ends as its file is refused, or as the replay on its protocol does.
-use Rattle.std.proofs.Common.{Some, IfSome, inl, inr, refl, subst, sym}
+use Rattle.std.proofs.Common.{◌≡◌, Some, Ok, Err, inl, subst, sym, ◌∙◌, refl}
 use Rattle.std.proofs.lemmas.Option.{IfSome_then}
-use Rattle.rvc_top.specs.Verdict.{RvReplayed}
-use Rattle.schedule_replay.specs.RvTrace.{rv_schedule}
-use Rattle.rvc_top.specs.Endings.{ScheduleLeft}
-use Rattle.rvc_top.specs.FileRead.{ChecksFile}
-use Rattle.rvc_top.specs.declared.reply.Reply.{Reply}
-use Rattle.rvc_top.specs.declared.status.Status.TheVariants.{FileRefused}
-use Rattle.rvc_top.proofs.OneVerdict.{check-refusal-only}
-use Rattle.rvc_top.proofs.Finished.{ends-delivered, exact-delivered, told}
-use Rattle.rvc_top.proofs.Replays.{ends-checked, exact-checked, end-of-schedule}
+use Rattle.schedule_replay.specs.Limits.{schedule_limits}
+use Rattle.rvc_top.specs.Commands.{describe, rv_replay}
+use Rattle.rvc_top.specs.Forms.{RefusesUnchecked, checked_form}
+use Rattle.rvc_top.specs.FileRead.{IsChecked, CheckedToEnd}
+use Rattle.rvc_top.specs.Reply.{IsReplyEnd}
+use Rattle.rvc_top.specs.Runs.{seen}
+use Rattle.rvc_top.specs.declared.command.Command.TheVariants.{Rv}
+use Rattle.rvc_top.specs.declared.status.Status.{Status}
+use Rattle.rvc_top.specs.declared.status.Status.TheVariants.{Done, FileRefused}
+use Rattle.rvc_top.proofs.Forms.{checked_form-is}
+use Rattle.rvc_top.proofs.Endings.{told}
+use Rattle.rvc_top.proofs.Runs.{run-replied, run-replayed}
 use Rattle.rvc_top.proofs.rv.rv.Goals as goal
 
-pub returns-in-Ok-WellFormed-clause-bytes : goal.returns-in-Ok-WellFormed-clause-bytes
-returns-in-Ok-WellFormed-clause-bytes g c =
-    IfSome_then (g.P.Source.left c.args.protocol.now) c.in-Ok-WellFormed.ensures.bytes (λ file checks.
-    let has = subst (ChecksFile file) c.in-Ok-WellFormed.field-0-is checks in
-    IfSome_then (g.Q.Source.left c.args.schedule.now) c.replay_rv.ensures.bytes (λ steps ends.
-    IfSome_then (g.O.Sink.taken c.args.out.now) ends (λ before x.
-    ends-checked file (RvReplayed c.args.n steps) _ has _ _ (λ writes. inr (c.in-Ok-WellFormed.ensures.cause, (_, has, writes))) before (g.O.Sink.taken c.replay_rv.new.out) c.replay_rv.result x)))
+pub returns-in-Ok-WellFormed : goal.returns-in-Ok-WellFormed
+returns-in-Ok-WellFormed g c =
+    let found = c.in-Ok-WellFormed in
+    run-replayed _ checked_form checked_form-is schedule_limits (rv_replay c.args.n)
+    (seen g.P.Source.left g.P.Source.faults g.P.Source.ended c.args.protocol.now
+    c.check_file.new.protocol) _ _ c.replay_rv.result found.checked
+    (IfSome_then (g.P.Source.left c.args.protocol.now) found.ensures.bytes
+    (λ file checks. subst (IsChecked file) found.field-0-is checks))
+    found.ensures.count c.replay_rv.ensures
+    (subst (CheckedToEnd (g.P.Source.left c.check_file.new.protocol)
+    (g.P.Source.ended c.check_file.new.protocol)) found.field-0-is found.ensures.end)
+    found.ensures.taken
 
-pub returns-in-Ok-WellFormed-clause-exact : goal.returns-in-Ok-WellFormed-clause-exact
-returns-in-Ok-WellFormed-clause-exact g c =
-    IfSome_then (g.P.Source.left c.args.protocol.now) c.in-Ok-WellFormed.ensures.bytes (λ file checks.
-    let has = subst (ChecksFile file) c.in-Ok-WellFormed.field-0-is checks in
-    IfSome_then (g.Q.Source.left c.args.schedule.now) c.replay_rv.ensures.exact (λ steps exact.
-    exact-checked file (RvReplayed c.args.n steps) _ has c.replay_rv.result exact))
+refused-undone : (status : Status) → status ≡ FileRefused → status ≡ Done → ⊥
+refused-undone status refused done = absurd (cc)
 
-pub returns-in-Ok-Refused-clause-bytes : goal.returns-in-Ok-Refused-clause-bytes
-returns-in-Ok-Refused-clause-bytes g c =
-    let reply : Reply = record { status = FileRefused; text = c.in-Ok-Refused.text } in
-    IfSome_then (g.P.Source.left c.args.protocol.now) c.in-Ok-Refused.ensures.bytes (λ file checks.
-    told (g.Q.Source.left c.args.schedule.now) _ (λ steps told_steps.
-    told (g.O.Sink.taken c.args.out.now) _ (λ before told_before.
-    ends-delivered _ _ before (g.O.Sink.taken c.deliver.new.out) reply c.deliver.result
-    (check-refusal-only file (RvReplayed c.args.n steps) reply refl (subst (ChecksFile file) c.in-Ok-Refused.field-0-is checks)) (inr refl) (rw (told_before, c.deref.ensures.value) at c.deliver.ensures.bytes))))
-
-pub returns-in-Ok-Refused-clause-exact : goal.returns-in-Ok-Refused-clause-exact
-returns-in-Ok-Refused-clause-exact g c =
-    let reply : Reply = record { status = FileRefused; text = c.in-Ok-Refused.text } in
-    IfSome_then (g.P.Source.left c.args.protocol.now) c.in-Ok-Refused.ensures.bytes (λ file checks.
-    told (g.Q.Source.left c.args.schedule.now) _ (λ steps told_steps.
-    exact-delivered _ (g.O.Sink.taken c.args.out.now) (g.O.Sink.taken c.deliver.new.out) reply c.deliver.result
-    (check-refusal-only file (RvReplayed c.args.n steps) reply refl (subst (ChecksFile file) c.in-Ok-Refused.field-0-is checks)) (rw c.deref.ensures.value at c.deliver.ensures.bytes)))
-
-pub returns-in-Ok-WellFormed-clause-schedule_end : goal.returns-in-Ok-WellFormed-clause-schedule_end
-returns-in-Ok-WellFormed-clause-schedule_end g c done =
-    let left = g.Q.Source.left c.replay_rv.new.schedule in
-    end-of-schedule 257000256 (g.Q.Source.left c.args.schedule.now) left c.replay_rv.ensures.schedule_taken
-    (IfSome_then (g.Q.Source.left c.args.schedule.now) c.replay_rv.ensures.left (λ steps rest. subst (ScheduleLeft (rv_schedule steps).stop steps left) done rest))
+pub returns-in-Ok-Refused : goal.returns-in-Ok-Refused
+returns-in-Ok-Refused g c =
+    let found = c.in-Ok-Refused in
+    let refusal = c.refusal in
+    run-replied (describe (Some (Rv c.args.n))).task checked_form-is tt
+    (seen g.P.Source.left g.P.Source.faults g.P.Source.ended c.args.protocol.now
+    c.check_file.new.protocol)
+    _ _ c.finish.result record { left = refl; count = refl; same = refl } (Ok refusal.result)
+    (IfSome_then (g.P.Source.left c.args.protocol.now) found.ensures.bytes (λ file checks schedule.
+    inl (
+      refusal.ensures.status,
+      rw refusal.ensures.text
+          (subst (IsChecked file) found.field-0-is checks),
+    )))
+    (subst IsReplyEnd (sym refusal.ensures.status) tt) found.ensures.count c.finish.ensures.bytes
+    (λ e. absurd (refused-undone refusal.result.status refusal.ensures.status e))
+    (λ e reads. refused-undone refusal.result.status refusal.ensures.status e)
+    found.ensures.taken c.finish.ensures.counts c.finish.ensures.written

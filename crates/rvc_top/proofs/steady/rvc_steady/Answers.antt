@@ -1,11 +1,23 @@
 -- Sources and sinks that never fail end no run.
-use Rattle.std.proofs.Common.{◌≡◌, ◌⊎◌, Some, map, string_bytes, arith, inl, inr}
-use Rattle.rvc_top.specs.Words.{meaning}
+use Rattle.std.proofs.Common.{◌≡◌, Some, map, string_bytes, ap, arith}
+use Rattle.rvc_top.specs.Commands.{asked}
 use Rattle.rvc_top.specs.Verdict.{Verdict}
-use Rattle.rvc_top.specs.Endings.{FaultLeaves}
-use Rattle.rvc_top.specs.declared.status.Status.TheVariants.{ReadFault, WriteFault, NoMemory}
-use Rattle.rvc_top.proofs.Finished.{ends-whole, no-fault-of}
+use Rattle.rvc_top.specs.Endings.{kind_of, write_failed, FaultLeaves}
+use Rattle.rvc_top.proofs.Endings.{rose-where, where-told, decided-else, decided-whole}
+use Rattle.rvc_top.proofs.Runs.{no-fault}
 use Rattle.rvc_top.proofs.steady.rvc_steady.Goals as goal
+
+pub returns-clause-read_fault : goal.returns-clause-read_fault
+returns-clause-read_fault c e =
+    no-fault (asked (map string_bytes c.args.words.now)) 0 0 0 0 _
+    (λ reads rose. omega (arith, rose))
+    (λ reads rose. omega (arith, rose)) (c.rvc.ensures.read_fault e)
+
+pub returns-clause-write_fault : goal.returns-clause-write_fault
+returns-clause-write_fault c e =
+    let rose = rose-where (write_failed (kind_of c.rvc.result)) 0 0
+    (ap (λ s. write_failed (kind_of s)) e) c.rvc.ensures.write_count in
+    omega (arith, rose)
 
 pub returns-clause-whole : goal.returns-clause-whole
 returns-clause-whole c memory =
@@ -14,6 +26,10 @@ returns-clause-whole c memory =
     let schedule = c.args.schedule.now.left in
     let before = c.args.out.now.taken in
     let now = Some c.rvc.new.out.taken in
-    ends-whole (Verdict words file schedule) (FaultLeaves (meaning words) 0 0 file schedule (Some c.rvc.new.schedule.left) before now) before now c.rvc.result c.rvc.ensures.bytes
-    (λ e. no-fault-of (meaning words) 0 0 0 0 _ (λ reads rose. omega (arith, rose)) (λ rose. omega (arith, rose)) (c.rvc.ensures.read_fault e))
-    (λ e. omega (arith, c.rvc.ensures.write_fault e)) memory
+    let result = c.rvc.result in
+    let left = Some c.rvc.new.schedule.left in
+    decided-whole (kind_of result)
+    (decided-else result (returns-clause-read_fault c) (returns-clause-write_fault c) memory)
+    (Verdict words file schedule)
+    (FaultLeaves (asked words) 0 0 file schedule left before now) before now result
+    (where-told (asked words) file schedule _ c.rvc.ensures.bytes)

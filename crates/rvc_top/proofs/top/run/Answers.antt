@@ -1,0 +1,98 @@
+-- Each command's run is the one that its description tells.
+use Rattle.std.proofs.Common.{◌≡◌, Some, None, sym, ◌∙◌, ap, subst, refl}
+use Rattle.std.specs.declared.option.Option.{Option}
+use Rattle.rvc_top.specs.Commands.{describe, done}
+use Rattle.rvc_top.specs.Texts.{usage_text}
+use Rattle.rvc_top.specs.Examples.{example_text}
+use Rattle.rvc_top.specs.Runs.{Seen, IsRun}
+use Rattle.rvc_top.specs.declared.command.Command.{Command}
+use Rattle.rvc_top.specs.declared.command.Command.TheVariants as named
+use Rattle.rvc_top.specs.declared.file_command.FileCommand.TheVariants.{Print, OnChecked}
+use Rattle.rvc_top.specs.declared.file_command.CheckedCommand.TheVariants as checked
+use Rattle.rvc_top.specs.declared.status.Status.{Status}
+use Rattle.rvc_top.specs.declared.status.Status.TheVariants.{Usage}
+use Rattle.rvc_top.proofs.Runs.{run-written, run-asked}
+use Rattle.rvc_top.proofs.top.run.Goals as goal
+
+-- what is known of the run of a command is known of what was found
+meant : (found : Option Command) (some command : Command) → found ≡ Some some → some ≡ command
+    → (file schedule out : Seen) (answer : Status)
+    → IsRun (describe (Some command)).task file schedule out answer
+    → IsRun (describe found).task file schedule out answer
+meant found some command is same file schedule out answer run =
+    subst (λ (m : Option Command). IsRun (describe m).task file schedule out answer)
+    (sym (is ∙ ap (λ (k : Command). Some k) same)) run
+
+meant-none : (found : Option Command) → found ≡ None → (file schedule out : Seen) (answer : Status)
+    → IsRun (describe None).task file schedule out answer
+    → IsRun (describe found).task file schedule out answer
+meant-none found is file schedule out answer run =
+    subst (λ (m : Option Command). IsRun (describe m).task file schedule out answer) (sym is) run
+
+pub returns-in-None : goal.returns-in-None
+returns-in-None g c =
+    let f = c.deliver in
+    meant-none c.args.command c.in-None.is _ _ _ f.result
+    (run-written record { status = Usage; text = usage_text } _ _ _ f.result record
+    { left = refl; count = refl; same = refl } record { left = refl; count = refl; same = refl }
+    tt (λ e. absurd (cc)) f.ensures.bytes f.ensures.counts f.ensures.written)
+
+pub returns-in-Some-Print : goal.returns-in-Some-Print
+returns-in-Some-Print g c =
+    let r = c.reply in
+    let f = c.finish in
+    meant c.args.command c.in-Some-Print.field-0 named.Print c.in-Some-Print.is
+    (rw c.in-Some-Print.is at c.in-Some-Print.field-0-is) _ _ _ f.result
+    (run-asked Print _ _ _ f.result record { left = refl; count = refl; same = refl } r.result
+    r.ensures.says r.ensures.status r.ensures.end r.ensures.taken r.ensures.count
+    f.ensures.bytes f.ensures.counts f.ensures.written)
+
+pub returns-in-Some-Check : goal.returns-in-Some-Check
+returns-in-Some-Check g c =
+    let r = c.reply-in-Some-Check in
+    let f = c.finish-in-Some-Check in
+    meant c.args.command c.in-Some-Check.field-0 named.Check c.in-Some-Check.is
+    (rw c.in-Some-Check.is at c.in-Some-Check.field-0-is) _ _ _ f.result
+    (run-asked (OnChecked checked.Check) _ _ _ f.result record
+    { left = refl; count = refl; same = refl } r.result r.ensures.says r.ensures.status
+    r.ensures.end r.ensures.taken r.ensures.count
+    f.ensures.bytes f.ensures.counts f.ensures.written)
+
+pub returns-in-Some-TableText : goal.returns-in-Some-TableText
+returns-in-Some-TableText g c =
+    let r = c.reply-in-Some-TableText in
+    let f = c.finish-in-Some-TableText in
+    meant c.args.command c.in-Some-TableText.field-0 (named.TableText c.in-Some-TableText.mode)
+    c.in-Some-TableText.is (rw c.in-Some-TableText.is at c.in-Some-TableText.field-0-is) _ _ _
+    f.result
+    (run-asked (OnChecked (checked.TableText c.in-Some-TableText.mode)) _ _ _ f.result record
+    { left = refl; count = refl; same = refl } r.result r.ensures.says r.ensures.status
+    r.ensures.end r.ensures.taken r.ensures.count
+    f.ensures.bytes f.ensures.counts f.ensures.written)
+
+pub returns-in-Some-TableJson : goal.returns-in-Some-TableJson
+returns-in-Some-TableJson g c =
+    let r = c.reply-in-Some-TableJson in
+    let f = c.finish-in-Some-TableJson in
+    meant c.args.command c.in-Some-TableJson.field-0 (named.TableJson c.in-Some-TableJson.mode)
+    c.in-Some-TableJson.is (rw c.in-Some-TableJson.is at c.in-Some-TableJson.field-0-is) _ _ _
+    f.result
+    (run-asked (OnChecked (checked.TableJson c.in-Some-TableJson.mode)) _ _ _ f.result record
+    { left = refl; count = refl; same = refl } r.result r.ensures.says r.ensures.status
+    r.ensures.end r.ensures.taken r.ensures.count
+    f.ensures.bytes f.ensures.counts f.ensures.written)
+
+pub returns-in-Some-Rv : goal.returns-in-Some-Rv
+returns-in-Some-Rv g c =
+    meant c.args.command c.in-Some-Rv.field-0 (named.Rv c.in-Some-Rv.n) c.in-Some-Rv.is
+    (rw c.in-Some-Rv.is at c.in-Some-Rv.field-0-is) _ _ _ c.rv.result c.rv.ensures
+
+pub returns-in-Some-Example : goal.returns-in-Some-Example
+returns-in-Some-Example g c =
+    let f = c.deliver-in-Some-Example in
+    meant c.args.command c.in-Some-Example.field-0 (named.Example c.in-Some-Example.which)
+    c.in-Some-Example.is (rw c.in-Some-Example.is at c.in-Some-Example.field-0-is) _ _ _ f.result
+    (run-written (done (example_text c.in-Some-Example.which)) _ _ _ f.result record
+    { left = refl; count = refl; same = refl } record { left = refl; count = refl; same = refl }
+    tt (λ e. absurd (cc)) (rw c.example_text.ensures at f.ensures.bytes) f.ensures.counts
+    f.ensures.written)
