@@ -1,0 +1,21 @@
+//! Tests of the commands that replay a schedule: whole runs in memory.
+//!
+//! - `rv`: events replayed on a protocol.
+//! - `lines`: lines that say nothing, or say no event.
+//! - `lengths`: how long a line and a schedule may be, and what is read of them.
+//! - `remotes`: how many remotes there may be.
+//! - `calls`: reads and writes that fail in the middle of a replay.
+#![tactic(auto)]
+
+#[cfg(test)]
+mod calls;
+#[cfg(test)]
+mod lengths;
+#[cfg(test)]
+mod lines;
+#[cfg(test)]
+mod remotes;
+#[cfg(test)]
+mod replayed;
+#[cfg(test)]
+mod rv;
