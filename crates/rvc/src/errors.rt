@@ -17,7 +17,8 @@ impl ErrorCount {
     /// Counts the error, unless it is want of memory, and answers whether it did.
     pub fn counts(&mut self, error: &io::Error) -> bool
         ensures want { IsFalse result ↔ (error_kind error.now ≡ ErrorKind.OutOfMemory) }
-        ensures counted { IsTrue result → (self.old.count ≤ self.new.count) × Rose self.old.count self.new.count }
+        ensures counted { IsTrue result
+            → (self.old.count ≤ self.new.count) × Rose self.old.count self.new.count }
         ensures uncounted { IsFalse result → self.new.count ≡ self.old.count }
     {
         if error.kind() == ErrorKind::OutOfMemory {

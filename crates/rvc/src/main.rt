@@ -1,11 +1,14 @@
-//! `rvc WORDS..`: makes a source of the file that the second word names, one of standard input and a
-//! sink of standard output, does what the words ask, and ends with the status as its exit status.
+//! `rvc WORDS..`: makes a source of the file that the second word names, one of standard input and
+//! a sink of standard output, does what the words ask, and ends with the number of the status as its
+//! exit status.
 #![tactic(auto)]
 
 mod errors;
+mod exit;
 mod sink;
 mod source;
 
+use exit::exit_code;
 use rv_base::NoMemory;
 use rvc_top::{Status, rvc};
 use sink::StdoutSink;
@@ -15,7 +18,7 @@ use std::io::ErrorKind;
 use std::process::ExitCode;
 
 fn main(rt: HostRuntime) -> ExitCode {
-    ExitCode::from(run(&rt) as u8)
+    exit_code(run(&rt))
 }
 
 fn run(rt: &HostRuntime) -> Status {
@@ -33,8 +36,8 @@ fn run(rt: &HostRuntime) -> Status {
     rvc(rt.alloc(), &words, &mut protocol, &mut schedule, &mut out)
 }
 
-// The words after the program's name. Where one of them is no text, the words have no form, as where
-// there is none.
+// The words after the program's name. Where one of them is no text, the words have no form, as
+// where there is none.
 fn words_given(rt: &HostRuntime) -> Result<Vec<String>, NoMemory> {
     let mut words = Vec::new(rt.alloc());
     match env::args(rt) {

@@ -12,13 +12,16 @@ use std::io::{ErrorKind, Stdout, Write};
 pub struct StdoutSink {
     stdout: Stdout,
     errors: ErrorCount,
+    refused: bool,
 }
 
 impl StdoutSink {
+    /// Standard output, on which nothing is written yet.
     pub fn new(rt: &HostRuntime) -> StdoutSink {
         StdoutSink {
             stdout: rt.stdout(),
             errors: ErrorCount { count: 0 },
+            refused: false,
         }
     }
 
@@ -41,9 +44,16 @@ impl Sink for StdoutSink {
 
     ghost faults = { λ sink. sink.errors.count };
 
+    ghost refused = { λ sink. sink.refused };
+
     fn write(&mut self, piece: &[u8]) -> WriteAnswer {
-        match self.write_some(piece) {
-            Ok(count) => WriteAnswer::Took(count),
+        let outcome = self.write_some(piece);
+        self.refused = true;
+        match outcome {
+            Ok(count) => {
+                self.refused = false;
+                WriteAnswer::Took(count)
+            }
             Err(error) => {
                 if self.errors.counts(&error) {
                     WriteAnswer::Failed

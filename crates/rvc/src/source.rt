@@ -5,9 +5,13 @@ ghost use Rattle.std.specs.Io.{ReadsAtMost};
 
 use crate::errors::ErrorCount;
 use rv_base::{ReadAnswer, Source};
+use std::alloc::Global;
 use std::fs::File;
 use std::io;
-use std::io::{Read, Stdin};
+use std::io::{BufReader, Read, Stdin};
+
+/// How many bytes of standard input one call of the system may give.
+const STDIN_PIECE: usize = 65_536;
 
 /// A file, which is opened at the first read. Where it can't be opened, that read fails.
 #[derive(Drop)]
@@ -16,6 +20,7 @@ pub struct FileSource<'a> {
     path: &'a str,
     file: Option<File>,
     errors: ErrorCount,
+    ended: bool,
 }
 
 impl<'a> FileSource<'a> {
@@ -26,6 +31,7 @@ impl<'a> FileSource<'a> {
             path,
             file: None,
             errors: ErrorCount { count: 0 },
+            ended: false,
         }
     }
 
@@ -36,7 +42,7 @@ impl<'a> FileSource<'a> {
     {
         let mut file = match self.file.take() {
             Some(file) => file,
-            None => File::open(self.rt, self.path)?,
+            None => opened(self.rt, self.path)?,
         };
         let count = file.read(into);
         self.file = Some(file);
@@ -44,14 +50,28 @@ impl<'a> FileSource<'a> {
     }
 }
 
+// Opens the file. Where standard input or output is closed, the system gives the file that number,
+// and whoever reads or writes there would meet the file. A clone has a number above 2, and only the
+// clone stays open.
+fn opened(rt: &HostRuntime, path: &str) -> io::Result<File> {
+    File::open(rt, path)?.try_clone()
+}
+
 impl<'a> Source for FileSource<'a> {
     ghost left = { λ _. None };
 
     ghost faults = { λ source. source.errors.count };
 
+    ghost ended = { λ source. source.ended };
+
     fn read(&mut self, into: &mut [u8]) -> ReadAnswer {
-        match self.read_some(into) {
-            Ok(0) => ReadAnswer::End,
+        let outcome = self.read_some(into);
+        self.ended = false;
+        match outcome {
+            Ok(0) => {
+                self.ended = true;
+                ReadAnswer::End
+            }
             Ok(count) => ReadAnswer::Got(count),
             Err(error) => {
                 if self.errors.counts(&error) {
@@ -64,19 +84,41 @@ impl<'a> Source for FileSource<'a> {
     }
 }
 
-/// Standard input.
+/// Standard input. What one call of the system gave is handed out before the next one, so no read
+/// waits while there is something to hand out.
 #[derive(Drop)]
 pub struct StdinSource {
+    alloc: Global,
     stdin: Stdin,
+    reader: Option<BufReader<Stdin>>,
     errors: ErrorCount,
+    ended: bool,
 }
 
 impl StdinSource {
+    /// Standard input, of which nothing is read yet.
     pub fn new(rt: &HostRuntime) -> StdinSource {
         StdinSource {
+            alloc: rt.alloc(),
             stdin: rt.stdin(),
+            reader: None,
             errors: ErrorCount { count: 0 },
+            ended: false,
         }
+    }
+
+    // Takes memory for the piece that is kept, where that is still to do, and reads.
+    fn read_some(&mut self, into: &mut [u8]) -> io::Result<usize>
+        ensures bound { ReadsAtMost result into.new }
+        ensures count { self.new.errors.count ≡ self.old.errors.count }
+    {
+        let mut reader = match self.reader.take() {
+            Some(reader) => reader,
+            None => BufReader::with_capacity(self.alloc, STDIN_PIECE, self.stdin)?,
+        };
+        let count = reader.read(into);
+        self.reader = Some(reader);
+        count
     }
 }
 
@@ -85,9 +127,16 @@ impl Source for StdinSource {
 
     ghost faults = { λ source. source.errors.count };
 
+    ghost ended = { λ source. source.ended };
+
     fn read(&mut self, into: &mut [u8]) -> ReadAnswer {
-        match self.stdin.read(into) {
-            Ok(0) => ReadAnswer::End,
+        let outcome = self.read_some(into);
+        self.ended = false;
+        match outcome {
+            Ok(0) => {
+                self.ended = true;
+                ReadAnswer::End
+            }
             Ok(count) => ReadAnswer::Got(count),
             Err(error) => {
                 if self.errors.counts(&error) {
