@@ -3,7 +3,7 @@ use Rattle.std.proofs.Common.{◌≡◌, ℕ, ◌+◌, ◌<◌, List, [], ◌∷
 use Rattle.std.proofs.lemmas.List.{take_more}
 use Rattle.rv_base.specs.Words.{opens_comment, before_comment}
 
-before_comment-cons : (b : ℕ) (bs : List ℕ) → opens_comment (b ∷ bs) ≡ false → before_comment (b ∷ bs) ≡ b ∷ before_comment bs
+pub before_comment-cons : (b : ℕ) (bs : List ℕ) → opens_comment (b ∷ bs) ≡ false → before_comment (b ∷ bs) ≡ b ∷ before_comment bs
 before_comment-cons b bs none = rw none refl
 
 -- where no comment begins at a place, the byte there stands before the comment

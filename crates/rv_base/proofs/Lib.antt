@@ -2,3 +2,4 @@ pub mod Moved
 pub mod BeforeComment
 pub mod DecimalText
 pub mod Lists
+pub mod FirstWord

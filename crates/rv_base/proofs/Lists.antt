@@ -1,13 +1,15 @@
 -- Lists: what each item gives and has, what is found in them, and where an answer comes from.
 use Rattle.std.proofs.Common.{◌≡◌, ◌≢◌, ℕ, zero, suc, ◌+◌, ◌<◌, cond, Bool, true, false, not, List}
-use Rattle.std.proofs.Common.{[], ◌∷◌, ◌++◌, Some, None, length, get_or, set, slice_get, take, map}
+use Rattle.std.proofs.Common.{[], ◌∷◌, ◌++◌, Some, None, length, get_or, set, slice_get, take, drop, map}
 use Rattle.std.proofs.Common.{replicate, refl, sym, ap, ◌∙◌, subst, append_assoc, append-nil}
 use Rattle.std.proofs.Common.{arith, if◌then◌else◌}
+use Rattle.std.proofs.lemmas.List.{drop_all, take_all, length-map}
 use Rattle.std.specs.declared.option.Option.{Option}
 use Rattle.std.specs.List.{AllByRecursion, find, position_from}
 use Rattle.std.specs.Option.{option_and_then, option_map}
 use Rattle.std.proofs.lemmas.Option.{slice_get_read, same_Some}
 use Rattle.rv_base.specs.Lists.{flat_from, map_from}
+use Rattle.rv_base.specs.Lends.{in_place}
 
 pub is_false : (b : Bool) → not b ≡ true → b ≡ false
 is_false true e = absurd (cc)
@@ -19,6 +21,16 @@ pub length-map_from : {A B : Type 0} (give : ℕ → A → B) (place : ℕ) (ite
     → length (map_from give place items) ≡ length items
 length-map_from give place [] = refl
 length-map_from give place (item ∷ items) = ap suc (length-map_from give (place + 1) items)
+
+pub map_from-append : {A B : Type 0} (give : ℕ → A → B) (place : ℕ) (front rest : List A)
+    → map_from give place (front ++ rest)
+    ≡ map_from give place front ++ map_from give (place + length front) rest
+map_from-append give place [] rest =
+    let at : place + 0 ≡ place = omega arith in
+    rw at refl
+map_from-append give place (item ∷ front) rest =
+    let at : place + suc (length front) ≡ place + 1 + length front = omega arith in
+    rw (at, map_from-append give (place + 1) front rest) refl
 
 flat_from-take : {A B : Type 0} (give : ℕ → A → List B) (place : ℕ) (items : List A) (i : ℕ) (d : A)
     → i < length items
@@ -80,6 +92,36 @@ flat_pushed {A} {B} {list} {items} {item} give i start same within is more so_fa
     let is_in_list : item ≡ get_or list i item = rw same at is in
     rw (more, so_far, flat_from-one_more give list i item within_list, ← is_in_list)
     (append_assoc start (flat_from give 0 (take i list)) (give i item))
+
+mapped_next : {X : Type 0} (give : X → X) (items : List X) (i : ℕ) (d : X) → i < length items
+    → set (map give (take i items) ++ drop i items) i
+    (give (get_or (map give (take i items) ++ drop i items) i d))
+    ≡ map give (take (i + 1) items) ++ drop (i + 1) items
+mapped_next give [] i d within = absurd (omega arith)
+mapped_next give (item ∷ items) zero d within = refl
+mapped_next give (item ∷ items) (suc i) d within =
+    let count : suc i + 1 ≡ suc (i + 1) = omega arith in
+    rw count (ap (λ rest. give item ∷ rest) (mapped_next give items i d (omega arith)))
+
+-- A loop over a list, which changes each item in place, did so with the items before i, and then
+-- with the one at i.
+pub mapped_in_place : {X : Type 0} (give : X → X) (items old : List X) (i : ℕ) (item d : X)
+    → i < length items → old ≡ map give (take i items) ++ drop i items → item ≡ give (get_or old i d)
+    → set old i item ≡ map give (take (i + 1) items) ++ drop (i + 1) items
+mapped_in_place give items old i item d within so_far is =
+    rw (is, so_far) (mapped_next give items i d within)
+
+-- As many items as are lent come back.
+pub in_place-same : {X : Type 0} (old last : List X) → length last ≡ length old
+    → in_place old last ≡ last
+in_place-same old last count =
+    let none : drop (length last) old ≡ [] = drop_all (length last) old (omega arith) in
+    ap (λ rest. take (length old) (last ++ rest)) none
+    ∙ ap (take (length old)) (append-nil last) ∙ take_all (length old) last (omega arith)
+
+pub in_place-map : {X : Type 0} (give : X → X) (items : List X)
+    → in_place items (map give items) ≡ map give items
+in_place-map give items = in_place-same items (map give items) (length-map items give)
 
 -- ---- what each item has
 
@@ -155,6 +197,19 @@ AllByRecursion-flat_from P give from [] each = tt
 AllByRecursion-flat_from P give from (item ∷ items) each =
     AllByRecursion-append P (give from item) (flat_from give (from + 1) items) (each from item)
     (AllByRecursion-flat_from P give (from + 1) items each)
+
+-- What holds of all that items give holds of what the item at a place gives.
+pub AllByRecursion-map_from_at : {A B : Type 0} (P : B → Type 0) (give : ℕ → A → B) (from : ℕ)
+    (items : List A) → AllByRecursion P (map_from give from items)
+    → (place : ℕ) (item : A) → slice_get items place ≡ Some item → P (give (from + place) item)
+AllByRecursion-map_from_at P give from [] each place item at = absurd (cc)
+AllByRecursion-map_from_at P give from (first ∷ items) each zero item at =
+    let same : first ≡ item = cc in
+    let here : from + 0 ≡ from = omega arith in
+    rw (here, ← same) each.0
+AllByRecursion-map_from_at P give from (first ∷ items) each (suc place) item at =
+    let there : from + suc place ≡ from + 1 + place = omega arith in
+    rw there (AllByRecursion-map_from_at P give (from + 1) items each.1 place item at)
 
 -- ---- one item put in place of another
 

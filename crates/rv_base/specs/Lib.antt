@@ -7,3 +7,4 @@ pub mod Whole
 pub mod Words
 pub mod Numbers
 pub mod Lists
+pub mod Lends

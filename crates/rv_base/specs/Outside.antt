@@ -1,4 +1,5 @@
--- What a read and a write do to the bytes and to the count of faults of what they are called on.
+-- What a read and a write do to the bytes of what they are called on, to its count of faults, and
+-- what they answer.
 use Rattle.std.specs.Prelude.{◌≡◌, Bool, true, false, ℕ, ◌+◌, ◌-◌, ◌^◌, ◌≤◌, min, List, length}
 use Rattle.std.specs.Prelude.{take, IsNone}
 use Rattle.std.specs.declared.option.Option.{Option}
@@ -17,6 +18,24 @@ counted count = min (count + 1) (2 ^ 64 - 1)
 abbrev pub Rose : ℕ → ℕ → Type 0
 Rose before now = counted before ≤ now
 
+-- A count before and after: it rose where this is so, and else it stays.
+abbrev pub RisesWhere : Bool → ℕ → ℕ → Type 0
+RisesWhere true before now = (before ≤ now) × Rose before now
+RisesWhere false before now = now ≡ before
+
+-- The read failed.
+abbrev pub read_failed : ReadAnswer → Bool
+read_failed (Got count) = false
+read_failed End = false
+read_failed Failed = true
+read_failed NoMemory = false
+
+-- The write failed.
+abbrev pub write_failed : WriteAnswer → Bool
+write_failed (Took count) = false
+write_failed WriteFailed = true
+write_failed WriteNoMemory = false
+
 -- The bytes left before and after a read, and what it left in the buffer. Got: at least one byte
 -- and no more than the buffer holds stand at its front, and were the next ones left. End: nothing
 -- is left, where that is told. Want of memory comes only where the bytes left aren't told. After
@@ -28,20 +47,19 @@ ReadMoves old new into End = (new ≡ old) × IsAtEnd old
 ReadMoves old new into Failed = new ≡ old
 ReadMoves old new into NoMemory = (new ≡ old) × IsNone old
 
--- The count of faults before and after a read: it never falls, rises where the read failed, and
--- stays at each other answer.
-abbrev pub ReadCounts : ℕ → ℕ → ReadAnswer → Type 0
-ReadCounts before now (Got count) = now ≡ before
-ReadCounts before now End = now ≡ before
-ReadCounts before now Failed = (before ≤ now) × Rose before now
-ReadCounts before now NoMemory = now ≡ before
-
 -- Whether the last read of a source answered End, after a read.
 abbrev pub ReadEnds : Bool → ReadAnswer → Type 0
 ReadEnds now (Got count) = now ≡ false
 ReadEnds now End = now ≡ true
 ReadEnds now Failed = now ≡ false
 ReadEnds now NoMemory = now ≡ false
+
+-- Whether the last read of a source failed or had no memory, after a read.
+abbrev pub ReadGoes : Bool → ReadAnswer → Type 0
+ReadGoes now (Got count) = now ≡ false
+ReadGoes now End = now ≡ false
+ReadGoes now Failed = now ≡ true
+ReadGoes now NoMemory = now ≡ true
 
 -- The bytes taken before and after a write of a piece. Took: a front of the piece, of at least
 -- one byte, follows what was taken before. After each other answer the bytes taken stay.
@@ -50,13 +68,6 @@ WriteMoves old new piece (Took count) =
     (1 ≤ count) × (count ≤ length piece) × (new ≡ append_known old (take count piece))
 WriteMoves old new piece WriteFailed = new ≡ old
 WriteMoves old new piece WriteNoMemory = new ≡ old
-
--- The count of faults before and after a write: it never falls, rises where the write failed, and
--- stays at each other answer.
-abbrev pub WriteCounts : ℕ → ℕ → WriteAnswer → Type 0
-WriteCounts before now (Took count) = now ≡ before
-WriteCounts before now WriteFailed = (before ≤ now) × Rose before now
-WriteCounts before now WriteNoMemory = now ≡ before
 
 -- Whether the last write on a sink took nothing, after a write.
 abbrev pub WriteGoes : Bool → WriteAnswer → Type 0

@@ -11,10 +11,11 @@ pub record Supply : Type 0 where
   pub most : ℕ
   pub ended : Bool
 
--- A supply some of whose reads are to fail.
+-- A supply some of whose reads are to fail, and whether the last one did.
 pub record FailingSupply : Type 0 where
   pub supply : Supply
   pub calls : Calls
+  pub refused : Bool
 
 -- These bytes are left, and the last read, where there was one, didn't answer End.
 abbrev pub new_supply : List ℕ → ℕ → Supply
@@ -27,7 +28,7 @@ ended_supply supply = record { left = supply.left; most = supply.most; ended = t
 -- These bytes are left, no read was made yet, and those with these numbers are to fail.
 abbrev pub new_failing_supply : List ℕ → ℕ → List ℕ → FailingSupply
 new_failing_supply bytes most failing =
-    record { supply = new_supply bytes most; calls = no_calls failing }
+    record { supply = new_supply bytes most; calls = no_calls failing; refused = false }
 
 -- A read that doesn't fail. Where something is left, it gives the next bytes: the lesser of the
 -- most that one read gives and the length of the buffer, and no more than is left. They stand at
@@ -43,7 +44,8 @@ Gives old new into filled End = (old.left ≡ []) × (new ≡ ended_supply old) 
 Gives old new into filled Failed = ⊥
 Gives old new into filled NoMemory = ⊥
 
--- A read that is to fail: it answers so, and moves nothing.
+-- A read that is to fail: it answers so, and it didn't answer End. The bytes left stay, and so does
+-- the buffer.
 abbrev pub RefusesRead : Supply → Supply → List ℕ → List ℕ → ReadAnswer → Type 0
 RefusesRead old new into filled answer =
     (answer ≡ Failed) × (new ≡ new_supply old.left old.most) × (filled ≡ into)

@@ -1,8 +1,8 @@
--- What reading a source to its end and writing a text whole do to the bytes and to the counts.
-use Rattle.std.specs.Prelude.{◌≡◌, Bool, true, false, ◌⊎◌, ℕ, ◌+◌, ◌≤◌, ◌<◌, List, length, take}
+-- What reading a source to its end and writing a text whole do to the bytes, and how the last read
+-- and the last write went.
+use Rattle.std.specs.Prelude.{◌≡◌, Bool, true, false, ◌⊎◌, ℕ, ◌+◌, ◌≤◌, ◌<◌, List, length, take, ⊤}
 use Rattle.std.specs.declared.option.Option.{Option}
 use Rattle.std.specs.Io.KnownBytes.{prepend_known, append_known, IsAtEnd}
-use Rattle.rv_base.specs.Outside.{Rose}
 use Rattle.rv_base.specs.declared.whole.Gathered.{Gathered}
 use Rattle.rv_base.specs.declared.whole.Gathered.TheVariants.{Whole, TooLong, Failed, NoMemory}
 use Rattle.rv_base.specs.declared.whole.Wrote.{Wrote}
@@ -39,13 +39,21 @@ ReadsToEnd now TooLong = now ≡ false
 ReadsToEnd now Failed = now ≡ false
 ReadsToEnd now NoMemory = now ≡ false
 
--- The count of faults before and after a source is read whole: it rose where a read failed, and
--- stays at each other answer.
-abbrev pub ReadCauses : ℕ → ℕ → Gathered → Type 0
-ReadCauses before now (Whole bytes) = now ≡ before
-ReadCauses before now TooLong = now ≡ before
-ReadCauses before now Failed = (before ≤ now) × Rose before now
-ReadCauses before now NoMemory = now ≡ before
+-- A read failed while a source was read whole.
+abbrev pub gathering_failed : Gathered → Bool
+gathering_failed (Whole bytes) = false
+gathering_failed TooLong = false
+gathering_failed Failed = true
+gathering_failed NoMemory = false
+
+-- Whether the last read of a source failed or had no memory, after it is read whole: neither where
+-- all that was left is answered, nor where the source gave more than the limit. Of want of memory,
+-- which may be the source's or that of the bytes gathered, nothing is said.
+abbrev pub ReadsThrough : Bool → Gathered → Type 0
+ReadsThrough now (Whole bytes) = now ≡ false
+ReadsThrough now TooLong = now ≡ false
+ReadsThrough now Failed = now ≡ true
+ReadsThrough now NoMemory = ⊤
 
 -- A front of the text, and not the whole of it, follows what was taken before.
 abbrev pub TakesPart : Option (List ℕ) → Option (List ℕ) → List ℕ → Type 0
@@ -59,12 +67,11 @@ Writes old new text WroteWhole = new ≡ append_known old text
 Writes old new text WriteFailed = TakesPart old new text
 Writes old new text WriteNoMemory = TakesPart old new text
 
--- The count of faults before and after a text is written whole: it rose where a write failed, and
--- stays at each other answer.
-abbrev pub WriteCauses : ℕ → ℕ → Wrote → Type 0
-WriteCauses before now WroteWhole = now ≡ before
-WriteCauses before now WriteFailed = (before ≤ now) × Rose before now
-WriteCauses before now WriteNoMemory = now ≡ before
+-- A write failed while a text was written whole.
+abbrev pub writing_failed : Wrote → Bool
+writing_failed WroteWhole = false
+writing_failed WriteFailed = true
+writing_failed WriteNoMemory = false
 
 -- A sink before and after a text is written whole, and whether its last write took nothing. Whole:
 -- no write was made, or the last one took something. After a failure or want of memory the last

@@ -34,4 +34,4 @@ pub use numbers::put_number;
 pub use numerals::read_number;
 pub use outside::{ReadAnswer, Sink, Source, WriteAnswer};
 pub use whole::{FILE_LIMIT, Gathered, Wrote, read_whole, write_whole};
-pub use words::word_at;
+pub use words::{next_word, word_at};

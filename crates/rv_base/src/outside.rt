@@ -2,8 +2,8 @@
 
 ghost use Rattle.std.specs.Prelude.{◌<◌, Bool, List, ℕ, length};
 ghost use Rattle.std.specs.declared.option.Option.{Option};
-ghost use Rattle.rv_base.specs.Outside.{ReadMoves, ReadCounts, ReadEnds};
-ghost use Rattle.rv_base.specs.Outside.{WriteMoves, WriteCounts, WriteGoes};
+ghost use Rattle.rv_base.specs.Outside.{RisesWhere, ReadMoves, ReadEnds, ReadGoes, read_failed};
+ghost use Rattle.rv_base.specs.Outside.{WriteMoves, WriteGoes, write_failed};
 
 /// What a read answers.
 #[derive(Clone, Copy, Debug, PartialEq, Eq)]
@@ -41,12 +41,16 @@ pub trait Source {
     /// Whether the last read answered `End`.
     ghost ended: { Self → Bool };
 
+    /// Whether the last read answered `Failed` or `NoMemory`.
+    ghost refused: { Self → Bool };
+
     /// Reads at least one and at most `into.len()` bytes to the front of `into`, or says why not.
     fn read(&mut self, into: &mut [u8]) -> ReadAnswer
         requires { 0 < length into.old }
         ensures bytes { ReadMoves (left self.old) (left self.new) into.new result }
-        ensures cause { ReadCounts (faults self.old) (faults self.new) result }
-        ensures ends { ReadEnds (ended self.new) result };
+        ensures cause { RisesWhere (read_failed result) (faults self.old) (faults self.new) }
+        ensures ends { ReadEnds (ended self.new) result }
+        ensures went { ReadGoes (refused self.new) result };
 }
 
 /// What takes bytes, one after another.
@@ -64,6 +68,6 @@ pub trait Sink {
     fn write(&mut self, piece: &[u8]) -> WriteAnswer
         requires { 0 < length piece.now }
         ensures bytes { WriteMoves (taken self.old) (taken self.new) piece.now result }
-        ensures cause { WriteCounts (faults self.old) (faults self.new) result }
+        ensures cause { RisesWhere (write_failed result) (faults self.old) (faults self.new) }
         ensures went { WriteGoes (refused self.new) result };
 }

@@ -1,8 +1,9 @@
 //! A source read to its end, and a text written whole.
 
 ghost use Rattle.std.specs.Prelude.{◌≡◌, ◌≤◌, ◌<◌, ◌^◌, List};
-ghost use Rattle.rv_base.specs.Whole.{Reads, ReadCauses, ReadsToEnd};
-ghost use Rattle.rv_base.specs.Whole.{Writes, WriteCauses, WritesThrough};
+ghost use Rattle.rv_base.specs.Outside.{RisesWhere};
+ghost use Rattle.rv_base.specs.Whole.{Reads, ReadsToEnd, ReadsThrough, gathering_failed};
+ghost use Rattle.rv_base.specs.Whole.{Writes, WritesThrough, writing_failed};
 
 use crate::{ReadAnswer, Sink, Source, WriteAnswer};
 use std::alloc::Global;
@@ -43,8 +44,10 @@ pub enum Wrote {
 pub fn read_whole<S: Source>(alloc: Global, source: &mut S, limit: usize) -> Gathered
     requires { limit < 2 ^ 32 }
     ensures bytes { Reads limit (S.left source.old) (S.left source.new) result }
-    ensures cause { ReadCauses (S.faults source.old) (S.faults source.new) result }
+    ensures cause { RisesWhere (gathering_failed result) (S.faults source.old)
+        (S.faults source.new) }
     ensures ends { ReadsToEnd (S.ended source.new) result }
+    ensures went { ReadsThrough (S.refused source.new) result }
 {
     let mut bytes = Vec::new(alloc);
     let mut piece = [0u8; PIECE];
@@ -67,7 +70,7 @@ pub fn read_whole<S: Source>(alloc: Global, source: &mut S, limit: usize) -> Gat
 /// Writes a text whole, in as many writes as the sink needs, or a part of it.
 pub fn write_whole<O: Sink>(out: &mut O, text: &[u8]) -> Wrote
     ensures bytes { Writes (O.taken out.old) (O.taken out.new) text.now result }
-    ensures cause { WriteCauses (O.faults out.old) (O.faults out.new) result }
+    ensures cause { RisesWhere (writing_failed result) (O.faults out.old) (O.faults out.new) }
     ensures went { WritesThrough O.refused out.old out.new result }
 {
     let mut done = 0;

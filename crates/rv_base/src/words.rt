@@ -1,7 +1,9 @@
 //! The words of a line of text.
 
-ghost use Rattle.std.specs.Prelude.{◌≡◌, option_copied, slice_get};
-ghost use Rattle.rv_base.specs.Words.{before_comment, is_blank, has_bytes, words};
+ghost use Rattle.std.specs.Prelude.{◌≡◌, ◌<◌, ◌≤◌, [], ◌∷◌, false, length, take, drop};
+ghost use Rattle.std.specs.Prelude.{option_copied, slice_get, MatchOption};
+ghost use Rattle.rv_base.specs.Words.{before_comment, ends_word, is_blank, has_bytes, words};
+ghost use Rattle.rv_base.specs.Words.{opens_blank};
 
 // Whether the byte parts words.
 fn is_blank(byte: u8) -> bool
@@ -34,6 +36,59 @@ pub fn word_at(line: &[u8], place: usize) -> Option<&[u8]>
         .nth(place)
 }
 
+// Whether a blank stands first, or two slashes.
+fn ends_word(bytes: &[u8]) -> bool
+    ensures { result ≡ ends_word bytes.now }
+{
+    match bytes {
+        [first, ..] => is_blank(*first) || bytes.starts_with(b"//"),
+        [] => false,
+    }
+}
+
+// The line without the blanks at its front.
+fn without_blanks(line: &[u8]) -> &[u8]
+    ensures first { opens_blank result.now ≡ false }
+    ensures same { words result.now ≡ words line.now }
+{
+    for start in 0..line.len() {
+        if !is_blank(line[start]) {
+            return &line[start..];
+        }
+    }
+    &line[line.len()..]
+}
+
+// Where the first word ends in a line at whose front no blank stands: 0 where it has no words.
+fn word_end(line: &[u8]) -> usize
+    requires { opens_blank line.now ≡ false }
+    ensures within { result ≤ length line.now }
+    ensures none { result ≡ 0 → words line.now ≡ [] }
+    ensures first { 0 < result
+        → words line.now ≡ take result line.now ∷ words (drop result line.now) }
+{
+    for end in 0..line.len() {
+        if ends_word(&line[end..]) {
+            return end;
+        }
+    }
+    line.len()
+}
+
+/// The first word of a line, and the rest of the line behind it, which has the line's other words.
+/// `None` where the line has no words. Takes no memory.
+pub fn next_word(line: &[u8]) -> Option<(&[u8], &[u8])>
+    ensures { MatchOption result (words line.now ≡ [])
+        (λ cut. words line.now ≡ cut.0.now ∷ words cut.1.now) }
+{
+    let text = without_blanks(line);
+    let end = word_end(text);
+    if end == 0 {
+        return None;
+    }
+    Some(text.split_at(end))
+}
+
 #[cfg(test)]
 mod tests {
     use super::*;
@@ -43,11 +98,19 @@ mod tests {
     fn blanks_part_words_and_a_comment_ends_them(rt: HostRuntime) -> Result<(), Fail> {
         let line = b" \tup\r 0/1/\x0b/ 2//3 4".as_slice();
         let words: [&[u8]; 3] = [b"up", b"0/1/\x0b/", b"2"];
+        let mut rest = line;
         for (place, word) in words.iter().enumerate() {
             assert_eq!(rt; word_at(line, place), Some(*word));
+            let Some((first, others)) = next_word(rest) else {
+                return Err("no word".into());
+            };
+            assert_eq!(rt; first, *word);
+            rest = others;
         }
         assert!(rt; word_at(line, 3).is_none());
+        assert!(rt; next_word(rest).is_none());
         assert!(rt; word_at(b" // up 0", 0).is_none());
+        assert!(rt; next_word(b" // up 0").is_none());
         Ok(())
     }
 }

@@ -3,7 +3,7 @@
 ghost use Rattle.std.specs.Prelude.{◌≡◌, ◌<◌, ◌≤◌, length, IfOk, Some};
 ghost use Rattle.std.specs.Bool.{OnTrue, OnFalse};
 ghost use Rattle.rv_base.specs.Calls.{fails_next, after_call};
-ghost use Rattle.rv_base.specs.Outside.{WriteMoves, WriteCounts, WriteGoes};
+ghost use Rattle.rv_base.specs.Outside.{RisesWhere, WriteMoves, WriteGoes, write_failed};
 ghost use Rattle.rv_base.specs.Store.{Store, FailingStore, new_store, new_failing_store};
 ghost use Rattle.rv_base.specs.Store.{Takes, RefusesWrite};
 
@@ -64,7 +64,7 @@ impl Sink for SteadySink {
     fn write(&mut self, piece: &[u8]) -> WriteAnswer
         requires { 0 < length piece.now }
         ensures bytes { WriteMoves (Some self.old.taken) (Some self.new.taken) piece.now result }
-        ensures cause { WriteCounts 0 0 result }
+        ensures cause { RisesWhere (write_failed result) 0 0 }
         ensures went { WriteGoes self.new.refused result }
         ensures exact { Takes self.old self.new piece.now result }
     {
@@ -123,7 +123,8 @@ impl Sink for MemorySink {
         requires { 0 < length piece.now }
         ensures bytes { WriteMoves (Some self.old.store.taken) (Some self.new.store.taken)
             piece.now result }
-        ensures cause { WriteCounts self.old.calls.failed self.new.calls.failed result }
+        ensures cause { RisesWhere (write_failed result) self.old.calls.failed
+            self.new.calls.failed }
         ensures went { WriteGoes self.new.store.refused result }
         ensures calls { self.new.calls ≡ after_call self.old.calls }
         ensures listed { OnTrue (fails_next self.old.calls)

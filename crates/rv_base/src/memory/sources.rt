@@ -1,9 +1,9 @@
 //! Sources whose bytes stand in memory.
 
-ghost use Rattle.std.specs.Prelude.{◌≡◌, ◌<◌, ◌≤◌, drop, length, vec_len, IfOk, Some};
+ghost use Rattle.std.specs.Prelude.{◌≡◌, ◌<◌, ◌≤◌, false, drop, length, vec_len, IfOk, Some};
 ghost use Rattle.std.specs.Bool.{OnTrue, OnFalse};
 ghost use Rattle.rv_base.specs.Calls.{fails_next, after_call};
-ghost use Rattle.rv_base.specs.Outside.{ReadMoves, ReadCounts, ReadEnds};
+ghost use Rattle.rv_base.specs.Outside.{RisesWhere, ReadMoves, ReadEnds, ReadGoes, read_failed};
 ghost use Rattle.rv_base.specs.Supply.{Supply, FailingSupply, new_supply, new_failing_supply};
 ghost use Rattle.rv_base.specs.Supply.{Gives, RefusesRead};
 
@@ -55,12 +55,15 @@ impl Source for SteadySource {
 
     ghost ended = { λ source. source.ended };
 
+    ghost refused = { λ _. false };
+
     /// Reads the lesser of `most` and `into.len()`, and no more than is left.
     fn read(&mut self, into: &mut [u8]) -> ReadAnswer
         requires { 0 < length into.old }
         ensures bytes { ReadMoves (Some self.old.left) (Some self.new.left) into.new result }
-        ensures cause { ReadCounts 0 0 result }
+        ensures cause { RisesWhere (read_failed result) 0 0 }
         ensures ends { ReadEnds self.new.ended result }
+        ensures went { ReadGoes false result }
         ensures exact { Gives self.old self.new into.old into.new result }
     {
         let rest = &self.bytes[self.at..];
@@ -80,12 +83,17 @@ impl Source for SteadySource {
 pub struct MemorySource {
     steady: SteadySource,
     calls: CallCounter,
+    refused: bool,
 }
 
 impl Model for MemorySource {
     ghost Value = { FailingSupply };
 
-    ghost view = { λ source. record { supply = source.steady; calls = source.calls } };
+    ghost view = { λ source. record {
+      supply = source.steady;
+      calls = source.calls;
+      refused = source.refused;
+    } };
 }
 
 impl MemorySource {
@@ -103,6 +111,7 @@ impl MemorySource {
         Ok(MemorySource {
             steady: SteadySource::new(alloc, bytes, most)?,
             calls: CallCounter::new(alloc, failing)?,
+            refused: false,
         })
     }
 }
@@ -114,20 +123,25 @@ impl Source for MemorySource {
 
     ghost ended = { λ source. source.supply.ended };
 
+    ghost refused = { λ source. source.refused };
+
     /// Reads as a `SteadySource` does, or fails where the number of this call is listed.
     fn read(&mut self, into: &mut [u8]) -> ReadAnswer
         requires { 0 < length into.old }
         ensures bytes { ReadMoves (Some self.old.supply.left) (Some self.new.supply.left)
             into.new result }
-        ensures cause { ReadCounts self.old.calls.failed self.new.calls.failed result }
+        ensures cause { RisesWhere (read_failed result) self.old.calls.failed
+            self.new.calls.failed }
         ensures ends { ReadEnds self.new.supply.ended result }
+        ensures went { ReadGoes self.new.refused result }
         ensures calls { self.new.calls ≡ after_call self.old.calls }
         ensures listed { OnTrue (fails_next self.old.calls)
             (RefusesRead self.old.supply self.new.supply into.old into.new result) }
         ensures unlisted { OnFalse (fails_next self.old.calls)
             (Gives self.old.supply self.new.supply into.old into.new result) }
     {
-        if self.calls.fails() {
+        self.refused = self.calls.fails();
+        if self.refused {
             self.steady.ended = false;
             ReadAnswer::Failed
         } else {
