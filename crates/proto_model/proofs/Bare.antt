@@ -2,11 +2,11 @@
 -- `next` is 0, are those over the guards themselves. Openness, targets, what is given and what the
 -- variables are afterwards are asked of the other fields alone, so they are the same by
 -- computation.
-use Rattle.std.proofs.Common.{◌≡◌, ℕ, ◌+◌, Bool, true, false, ◌||◌, cond, List, [], ◌∷◌, map}
+use Rattle.std.proofs.Common.{◌≡◌, ℕ, ◌+◌, Bool, ◌||◌, cond, List, [], ◌∷◌, map}
 use Rattle.std.proofs.Common.{Option, Some, None, refl, ap, ◌∙◌}
 use Rattle.std.specs.Prelude.{slice_get}
 use Rattle.std.specs.Option.{option_map, option_map_or, option_and_then}
-use Rattle.std.specs.List.{position_from, find, list_any, list_all, AllByRecursion}
+use Rattle.std.specs.List.{position_from, list_any}
 use Rattle.std.proofs.lemmas.Option.{slice_get-map}
 use Rattle.proto_model.specs.Guards.{guards_of, guard_at, only_of, after_guard, bare_rule}
 use Rattle.proto_model.specs.Guards.{bare_state, bare_body}
@@ -18,7 +18,6 @@ use Rattle.proto_model.specs.declared.numbered.MessageInfo.{MessageInfo}
 use Rattle.proto_model.specs.declared.numbered.Rule.{Rule}
 use Rattle.proto_model.specs.declared.numbered.StateInfo.{StateInfo}
 use Rattle.proto_model.specs.declared.numbered.Body.{Body}
-use Rattle.proto_model.specs.declared.rendezvous.Part.{Part}
 
 -- ---- of one guard
 

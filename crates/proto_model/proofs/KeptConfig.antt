@@ -27,8 +27,8 @@ use Rattle.proto_model.specs.declared.rendezvous.Part.{Part}
 use Rattle.proto_model.specs.declared.rendezvous.RvConfig.{RvConfig}
 use Rattle.proto_model.specs.declared.rendezvous.Event.{Event}
 use Rattle.proto_model.specs.declared.rendezvous.Event.TheVariants as event
-use Rattle.proto_model.proofs.Elements.{AllByRecursion-at, AllByRecursion-set}
-use Rattle.proto_model.proofs.Elements.{AllByRecursion-replicate}
+use Rattle.rv_base.proofs.Lists.{AllByRecursion-at, AllByRecursion-set}
+use Rattle.rv_base.proofs.Lists.{AllByRecursion-replicate}
 use Rattle.proto_model.proofs.Steps.{some_and_then}
 use Rattle.proto_model.proofs.TypedRules.{AreOfKinds-first, AreOfKinds-completed, IsCarried-send}
 
@@ -36,7 +36,8 @@ use Rattle.proto_model.proofs.TypedRules.{AreOfKinds-first, AreOfKinds-completed
 
 IsPartOf-start : (s : Side) (messages : List MessageInfo) (body : Body)
     → IsProperBody s messages body → IsPartOf body (start_part body)
-IsPartOf-start s messages body proper = record { state = proper.start; vars = AreOfKinds-first body.vars proper.vars }
+IsPartOf-start s messages body proper =
+    record { state = proper.start; vars = AreOfKinds-first body.vars proper.vars }
 
 pub IsConfigOf-start : (protocol : NumberedProtocol) (n : ℕ) → IsProper protocol → 1 ≤ n → n ≤ 64
     → IsConfigOf protocol (rv_start protocol n)
@@ -89,11 +90,12 @@ pub IsPartOf-after_guard : (s : Side) (messages : List MessageInfo) (body : Body
     → IsPartOf body part → guard_at body part.state g ≡ Some rule → j < 64
     → IsReceived messages rule.kind v
     → IsPartOf body (after_guard body part.vars rule rule.next j v)
-IsPartOf-after_guard s messages body part g rule j v carries proper stands at below received = record {
-  state = (IsProperRule-at s messages body part g rule proper at).next;
-  vars = AreOfKinds-completed messages body.vars part.vars rule j v
-      (IsTyped-at s messages body part g rule carries proper stands at) below received;
-}
+IsPartOf-after_guard s messages body part g rule j v carries proper stands at below received =
+    record {
+      state = (IsProperRule-at s messages body part g rule proper at).next;
+      vars = AreOfKinds-completed messages body.vars part.vars rule j v
+          (IsTyped-at s messages body part g rule carries proper stands at) below received;
+    }
 
 -- what is taken in
 
@@ -111,7 +113,8 @@ pub IsReceived-in : (messages : List MessageInfo) (kind : RuleKind) (place : ℕ
     → message_in kind ≡ Some place → IsCarriedBy messages place v → IsReceived messages kind v
 IsReceived-in messages action.Tau place v e is = absurd (cc)
 IsReceived-in messages (action.Output p m sent) place v e is = absurd (cc)
-IsReceived-in messages (action.Input p m bound) place v e is = let same : place ≡ m = cc in subst (λ (n : ℕ). IsCarriedBy messages n v) same is
+IsReceived-in messages (action.Input p m bound) place v e is =
+    let same : place ≡ m = cc in subst (λ (n : ℕ). IsCarriedBy messages n v) same is
 
 -- a value of the type of a message that is there
 pub IsCarriedBy-there : (messages : List MessageInfo) (place : ℕ) (message : MessageInfo)

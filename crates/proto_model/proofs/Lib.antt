@@ -5,7 +5,6 @@ pub mod NodeBits
 pub mod NodeSets
 pub mod Bare
 pub mod VarsPlaces
-pub mod Elements
 pub mod TypedValues
 pub mod TypedRules
 pub mod Steps

@@ -1,9 +1,13 @@
 -- A set of remotes below n is a number below 2 ^ n, and has exactly the remotes that it was made of.
-use Rattle.std.proofs.Common.{◌≡◌, ◌≢◌, ℕ, zero, suc, ◌+◌, ◌*◌, ◌%◌, ◌^◌, ◌<◌, ◌≤◌, max, Bool, true, false, ◌&&◌, nat_lt, cond, bit_and, bit_or, inl, inr, lit<, refl, sym, ap, ◌∙◌, arith, add-one}
+use Rattle.std.proofs.Common.{◌≡◌, ◌≢◌, ℕ, zero, suc, ◌+◌, ◌*◌, ◌%◌, ◌^◌, ◌<◌, ◌≤◌, max, Bool, true}
+use Rattle.std.proofs.Common.{false, ◌&&◌, nat_lt, cond, bit_and, bit_or, inl, inr, lit<, refl, sym}
+use Rattle.std.proofs.Common.{ap, ◌∙◌, arith, add-one}
 use Rattle.std.specs.Int.{bit_at}
 use Rattle.std.proofs.lemmas.Nat.{pow_below, or_disjoint}
-use Rattle.std.proofs.lemmas.Nat.Bits.{bit_at_above, bit_at_or, and_pow, bit_at-pow_same, bit_at-pow_other}
-use Rattle.std.proofs.lemmas.Bool.{cases_lt, cases_eq, false≢true, cond_both, cond-true, cond-false, lt-ltb, le-ltb, and_from, and_left, and_right}
+use Rattle.std.proofs.lemmas.Nat.Bits.{bit_at_above, bit_at_or, and_pow, bit_at-pow_same}
+use Rattle.std.proofs.lemmas.Nat.Bits.{bit_at-pow_other}
+use Rattle.std.proofs.lemmas.Bool.{cases_lt, cases_eq, false≢true, cond_both, cond-true, cond-false}
+use Rattle.std.proofs.lemmas.Bool.{lt-ltb, le-ltb, and_from, and_left, and_right}
 use Rattle.std.proofs.Math.Nat.{pow-succ', pow-le-pow_right, mod-eq_of_lt, one-mul, zero-mul}
 use Rattle.proto_model.specs.NodeSets.{has_node, nodes_below}
 
@@ -37,21 +41,29 @@ pub nodes_below-none : (test : ℕ → Bool) → nodes_below test 0 ≡ 0
 unfolding nodes_below
 nodes_below-none test = refl
 
-nodes_below-more : (test : ℕ → Bool) (n : ℕ) → nodes_below test (n + 1) ≡ nodes_below test n + cond (test n) (2 ^ n) 0
+nodes_below-more : (test : ℕ → Bool) (n : ℕ)
+    → nodes_below test (n + 1) ≡ nodes_below test n + cond (test n) (2 ^ n) 0
 unfolding nodes_below
 nodes_below-more test n = rw add-one refl
 
-pub nodes_below-with : (test : ℕ → Bool) (n : ℕ) → test n ≡ true → nodes_below test (n + 1) ≡ nodes_below test n + 2 ^ n
-nodes_below-with test n is = nodes_below-more test n ∙ ap (λ (bit : ℕ). nodes_below test n + bit) (cond-true (test n) (2 ^ n) 0 is)
+pub nodes_below-with : (test : ℕ → Bool) (n : ℕ) → test n ≡ true
+    → nodes_below test (n + 1) ≡ nodes_below test n + 2 ^ n
+nodes_below-with test n is =
+    nodes_below-more test n
+    ∙ ap (λ (bit : ℕ). nodes_below test n + bit) (cond-true (test n) (2 ^ n) 0 is)
 
-pub nodes_below-without : (test : ℕ → Bool) (n : ℕ) → test n ≡ false → nodes_below test (n + 1) ≡ nodes_below test n
+pub nodes_below-without : (test : ℕ → Bool) (n : ℕ) → test n ≡ false
+    → nodes_below test (n + 1) ≡ nodes_below test n
 nodes_below-without test n is =
     let none : nodes_below test n + 0 ≡ nodes_below test n = omega arith in
-    nodes_below-more test n ∙ ap (λ (bit : ℕ). nodes_below test n + bit) (cond-false (test n) (2 ^ n) 0 is) ∙ none
+    nodes_below-more test n
+    ∙ ap (λ (bit : ℕ). nodes_below test n + bit) (cond-false (test n) (2 ^ n) 0 is) ∙ none
 
 -- a bit below 64, as the code makes it
 pub bit-small : (n : ℕ) → n < 64 → 1 * 2 ^ n % 2 ^ 64 ≡ 2 ^ n
-bit-small n small = let below = pow_below n 64 small in ap (λ (m : ℕ). m % 2 ^ 64) (one-mul (2 ^ n)) ∙ mod-eq_of_lt below
+bit-small n small =
+    let below = pow_below n 64 small in
+    ap (λ (m : ℕ). m % 2 ^ 64) (one-mul (2 ^ n)) ∙ mod-eq_of_lt below
 
 -- the bit of the next remote fits
 pub nodes_below-room : (test : ℕ → Bool) (n : ℕ) → n < 64 → nodes_below test n + 2 ^ n < 2 ^ 64
@@ -65,7 +77,8 @@ nodes_below-room test n small =
 
 bit-added : (a n : ℕ) → a < 2 ^ n → a + 2 ^ n ≡ bit_or a (2 ^ n)
 bit-added a n small =
-    let none : bit_and a (2 ^ n) ≡ 0 = and_pow a n ∙ ap (λ (bit : ℕ). bit * 2 ^ n) (bit_at_above a n n small (omega arith)) ∙ zero-mul (2 ^ n) in
+    let none : bit_and a (2 ^ n) ≡ 0 = and_pow a n
+    ∙ ap (λ (bit : ℕ). bit * 2 ^ n) (bit_at_above a n n small (omega arith)) ∙ zero-mul (2 ^ n) in
     sym (or_disjoint a (2 ^ n) none)
 
 has_node-added : (a n j : ℕ) → a < 2 ^ n → j ≡ n → has_node (a + 2 ^ n) j ≡ true
@@ -87,22 +100,30 @@ lt-suc-others j n other =
       | inr above ↦ le-ltb j (suc n) (omega arith) ∙ sym (le-ltb j n above)
     ]
 
-one_more : (a n j : ℕ) (bit test : Bool) → a < 2 ^ n → has_node a j ≡ (nat_lt j n && test) → (j ≡ n → test ≡ bit) → has_node (a + cond bit (2 ^ n) 0) j ≡ (nat_lt j (suc n) && test)
+one_more : (a n j : ℕ) (bit test : Bool) → a < 2 ^ n → has_node a j ≡ (nat_lt j n && test)
+    → (j ≡ n → test ≡ bit) → has_node (a + cond bit (2 ^ n) 0) j ≡ (nat_lt j (suc n) && test)
 one_more a n j true test small before is =
     elim (cases_eq j n) [
-      | inl same ↦ has_node-added a n j small same ∙ sym (and_from (nat_lt j (suc n)) test (lt-ltb j (suc n) (omega arith)) (is same))
-      | inr other ↦ has_node-others a n j small other ∙ before ∙ ap (λ (below : Bool). below && test) (sym (lt-suc-others j n other))
+      | inl same ↦ has_node-added a n j small same
+          ∙ sym (and_from (nat_lt j (suc n)) test (lt-ltb j (suc n) (omega arith)) (is same))
+      | inr other ↦ has_node-others a n j small other ∙ before
+          ∙ ap (λ (below : Bool). below && test) (sym (lt-suc-others j n other))
     ]
 one_more a n j false test small before is =
     let whole : a + 0 ≡ a = omega arith in
     elim (cases_eq j n) [
-      | inl same ↦ ap (λ (set : ℕ). has_node set j) whole ∙ before ∙ and_right (nat_lt j n) test (is same) ∙ sym (and_right (nat_lt j (suc n)) test (is same))
-      | inr other ↦ ap (λ (set : ℕ). has_node set j) whole ∙ before ∙ ap (λ (below : Bool). below && test) (sym (lt-suc-others j n other))
+      | inl same ↦ ap (λ (set : ℕ). has_node set j) whole ∙ before
+          ∙ and_right (nat_lt j n) test (is same) ∙ sym (and_right (nat_lt j (suc n)) test (is same))
+      | inr other ↦ ap (λ (set : ℕ). has_node set j) whole ∙ before
+          ∙ ap (λ (below : Bool). below && test) (sym (lt-suc-others j n other))
     ]
 
 -- The set of the remotes below n that pass a test has exactly these.
-pub has_node-nodes_below : (test : ℕ → Bool) (n j : ℕ) → has_node (nodes_below test n) j ≡ (nat_lt j n && test j)
+pub has_node-nodes_below : (test : ℕ → Bool) (n j : ℕ)
+    → has_node (nodes_below test n) j ≡ (nat_lt j n && test j)
 unfolding nodes_below
-has_node-nodes_below test zero j = has_node-above 0 0 j (lit< tt) (omega arith) ∙ sym (and_left (nat_lt j 0) (test j) (le-ltb j 0 (omega arith)))
+has_node-nodes_below test zero j =
+    has_node-above 0 0 j (lit< tt) (omega arith)
+    ∙ sym (and_left (nat_lt j 0) (test j) (le-ltb j 0 (omega arith)))
 has_node-nodes_below test (suc n) j =
     one_more (nodes_below test n) n j (test n) (test j) (nodes_below-lt test n) (has_node-nodes_below test n j) (ap test)

@@ -1,12 +1,12 @@
 -- What is in a set of remotes after one was added or removed.
-use Rattle.std.proofs.Common.{◌≡◌, ◌≢◌, ℕ, suc, ◌+◌, ◌*◌, ◌-◌, ◌/◌, ◌%◌, ◌^◌, ◌<◌, ◌≤◌, max, Bool}
-use Rattle.std.proofs.Common.{true, false, not, ◌&&◌, ◌||◌, ◌==◌, nat_lt, cond, bit_and, bit_or}
+use Rattle.std.proofs.Common.{◌≡◌, ℕ, ◌+◌, ◌*◌, ◌-◌, ◌/◌, ◌%◌, ◌^◌, ◌<◌, max, Bool}
+use Rattle.std.proofs.Common.{true, false, not, ◌&&◌, ◌||◌, ◌==◌, cond, bit_and, bit_or}
 use Rattle.std.proofs.Common.{inl, inr, refl, sym, ap, ◌∙◌, arith}
 use Rattle.std.specs.Int.{bit_at}
 use Rattle.std.proofs.lemmas.Nat.{or_disjoint, pow_pos}
 use Rattle.std.proofs.lemmas.Nat.Bits.{bit_at_or, and_pow, bit_at-pow_same, bit_at-pow_other}
 use Rattle.std.proofs.lemmas.Nat.Bits.{bit_at-lt}
-use Rattle.std.proofs.lemmas.Bool.{cases_eq, eq-eqb, ne_eqb, eqb-true, lt-ltb, cond-true}
+use Rattle.std.proofs.lemmas.Bool.{cases_eq, eq-eqb, ne_eqb, eqb-true, lt-ltb}
 use Rattle.std.proofs.Math.Nat.{add-div_right, zero-mul}
 use Rattle.proto_model.specs.NodeSets.{has_node, with_node, without_node}
 use Rattle.proto_model.proofs.NodeBits.{pow-le-set}

@@ -11,13 +11,25 @@ pub record IsFilled (n : ℕ) (xs : List Value) : Type 0 where
   pub room : length xs ≡ 16
   pub rest : drop n xs ≡ replicate (16 - n) value.Unit
 
-padded : (n m : ℕ) (xs : List Value) → n ≤ length xs → drop n xs ≡ replicate (m - n) value.Unit → take n xs ++ replicate (m - length (take n xs)) value.Unit ≡ xs
+-- the used values, and Unit in the other places, are all the values
+padded : (n m : ℕ) (xs : List Value) → n ≤ length xs → drop n xs ≡ replicate (m - n) value.Unit
+    → take n xs ++ replicate (m - length (take n xs)) value.Unit ≡ xs
 padded n m xs fits rest = rw (length-take-le n xs fits, ← rest, take-append-drop)
 
-same_inside : (xs ys : List Value) (n m : ℕ) → xs ≡ ys → n ≡ m → ◌≡◌ {A = Inside} (record { values = xs; len = n }) (record { values = ys; len = m })
+-- an array of values and their number, by their parts
+same_inside : (xs ys : List Value) (n m : ℕ) → xs ≡ ys → n ≡ m
+    → ◌≡◌ {A = Inside} (record { values = xs; len = n }) (record { values = ys; len = m })
 same_inside xs ys n m p e = cc
 
-pub vars_back : (a : Inside) → IsFilled a.len a.values → ◌≡◌ {A = Inside} (record { values = take a.len a.values ++ replicate (16 - length (take a.len a.values)) value.Unit; len = length (take a.len a.values) }) a
+-- The array is found again from the list of its used values: these stand in front, and Unit in the
+-- other places.
+pub vars_back : (a : Inside) → IsFilled a.len a.values
+    → ◌≡◌ {A = Inside}
+    (record {
+      values = take a.len a.values ++ replicate (16 - length (take a.len a.values)) value.Unit;
+      len = length (take a.len a.values);
+    }) a
 vars_back a filled =
     let fits : a.len ≤ length a.values = rw filled.room filled.fits in
-    same_inside _ _ _ _ (padded a.len 16 a.values fits filled.rest) (length-take-le a.len a.values fits)
+    same_inside _ _ _ _ (padded a.len 16 a.values fits filled.rest)
+    (length-take-le a.len a.values fits)

@@ -1,6 +1,7 @@
 -- The grammar: the tokens of a protocol, by its parts. Square brackets in a rule mark a part that
 -- may be missing, * a part that stands any number of times, | a choice.
-use Rattle.std.specs.Prelude.{ℕ, Bool, true, false, List, [], ◌∷◌, ◌++◌, Option, Some, None, codes}
+use Rattle.std.specs.Prelude.{ℕ, Bool, true, false, ◌==◌, if◌then◌else◌, List, [], ◌∷◌, ◌++◌, map}
+use Rattle.std.specs.Prelude.{Option, Some, None, codes}
 use Rattle.std.specs.List.{flat_map}
 use Rattle.std.specs.Fmt.{decimal}
 use Rattle.proto_model.specs.Tokens.{Text, Token, item, part}
@@ -14,6 +15,8 @@ use Rattle.proto_model.specs.declared.protocol.Initial.TheVariants as first
 use Rattle.proto_model.specs.declared.protocol.Var.{Var}
 use Rattle.proto_model.specs.declared.protocol.State.{State}
 use Rattle.proto_model.specs.declared.protocol.Process.{Process}
+use Rattle.proto_model.specs.declared.protocol.Claim.{Claim}
+use Rattle.proto_model.specs.declared.protocol.Claim.TheVariants as claim
 use Rattle.proto_model.specs.declared.protocol.Protocol.{Protocol}
 use Rattle.proto_model.specs.declared.guard.Term.{Term}
 use Rattle.proto_model.specs.declared.guard.Term.TheVariants as term
@@ -29,15 +32,19 @@ use Rattle.proto_model.specs.declared.guard.GuardKind.{GuardKind}
 use Rattle.proto_model.specs.declared.guard.GuardKind.TheVariants as action
 use Rattle.proto_model.specs.declared.guard.Guard.{Guard}
 
+-- ';'
 abbrev pub semicolon : Token
 semicolon = part (codes ";")
 
+-- '{'
 abbrev pub opening : Token
 opening = part (codes "{")
 
+-- '}'
 abbrev pub closing : Token
 closing = part (codes "}")
 
+-- NUMBER: the decimal text
 abbrev pub number_token : ℕ → Token
 number_token n = part (decimal n)
 
@@ -56,7 +63,8 @@ carry_tokens carry.Set = part (codes "set") ∷ []
 -- 'message' NAME ( 'up' | 'down' ) [ type ] ';'
 abbrev pub message_tokens : Message → List Token
 message_tokens m =
-    item (codes "message") ∷ part m.name ∷ direction_token m.up ∷ (carry_tokens m.carries ++ semicolon ∷ [])
+    item (codes "message") ∷ part m.name ∷ direction_token m.up
+    ∷ (carry_tokens m.carries ++ semicolon ∷ [])
 
 -- 'int' NUMBER | 'node' | 'set'
 abbrev pub kind_tokens : VarKind → List Token
@@ -73,7 +81,8 @@ initial_token first.Empty = part (codes "empty")
 -- 'var' NAME type '=' initial ';'
 abbrev pub var_tokens : Var → List Token
 var_tokens v =
-    item (codes "var") ∷ part v.name ∷ (kind_tokens v.kind ++ part (codes "=") ∷ initial_token v.first ∷ semicolon ∷ [])
+    item (codes "var") ∷ part v.name
+    ∷ (kind_tokens v.kind ++ part (codes "=") ∷ initial_token v.first ∷ semicolon ∷ [])
 
 -- NUMBER | NAME | 'none' | 'empty'
 abbrev pub term_token : Term → Token
@@ -104,7 +113,9 @@ atom_tokens a = expr_tokens a.left ++ (rel_token a.rel ∷ expr_tokens a.right)
 -- [ 'when' atom ( 'and' atom )* ]; a guard without atoms has no 'when'
 abbrev pub conds_tokens : List Atom → List Token
 conds_tokens [] = []
-conds_tokens (a ∷ more) = part (codes "when") ∷ (atom_tokens a ++ flat_map (λ b. part (codes "and") ∷ atom_tokens b) more)
+conds_tokens (a ∷ more) =
+    part (codes "when")
+    ∷ (atom_tokens a ++ flat_map (λ b. part (codes "and") ∷ atom_tokens b) more)
 
 -- NAME '=' expr
 abbrev pub assign_tokens : Assign → List Token
@@ -113,7 +124,9 @@ assign_tokens a = part a.var ∷ part (codes "=") ∷ expr_tokens a.value
 -- [ 'do' assign ( ',' assign )* ]; a guard without assignments has no 'do'
 abbrev pub assigns_tokens : List Assign → List Token
 assigns_tokens [] = []
-assigns_tokens (a ∷ more) = part (codes "do") ∷ (assign_tokens a ++ flat_map (λ b. part (codes ",") ∷ assign_tokens b) more)
+assigns_tokens (a ∷ more) =
+    part (codes "do")
+    ∷ (assign_tokens a ++ flat_map (λ b. part (codes ",") ∷ assign_tokens b) more)
 
 -- 'home' | 'any' NAME [ 'in' NAME ] | NAME
 abbrev pub partner_tokens : Partner → List Token
@@ -144,24 +157,46 @@ action_tokens (action.Output p m value) =
 abbrev pub guard_tokens : Guard → List Token
 guard_tokens g =
     action_tokens g.kind
-    ++ (conds_tokens g.conds ++ (assigns_tokens g.assigns ++ part (codes "goto") ∷ part g.next ∷ semicolon ∷ []))
+    ++ (conds_tokens g.conds
+    ++ (assigns_tokens g.assigns ++ part (codes "goto") ∷ part g.next ∷ semicolon ∷ []))
 
 -- 'state' NAME '{' guard* '}'
 abbrev pub state_tokens : State → List Token
-state_tokens s = item (codes "state") ∷ part s.name ∷ opening ∷ (flat_map guard_tokens s.guards ++ closing ∷ [])
+state_tokens s =
+    item (codes "state") ∷ part s.name ∷ opening
+    ∷ (flat_map guard_tokens s.guards ++ closing ∷ [])
 
 -- '{' var* 'start' NAME ';' state* '}'
 abbrev pub process_tokens : Process → List Token
 process_tokens p =
     opening
     ∷ (flat_map var_tokens p.vars
-    ++ item (codes "start") ∷ part p.start ∷ semicolon ∷ (flat_map state_tokens p.states ++ closing ∷ []))
+    ++ item (codes "start") ∷ part p.start ∷ semicolon
+    ∷ (flat_map state_tokens p.states ++ closing ∷ []))
 
--- 'protocol' NAME ';' message* 'home' process 'remote' process
+-- [ 'version' NUMBER ]; version 1 is not written
+abbrev pub version_tokens : ℕ → List Token
+version_tokens version =
+    if version == 1 then [] else part (codes "version") ∷ number_token version ∷ []
+
+-- 'protocol' NAME [ 'version' NUMBER ] ';'
+abbrev pub header_tokens : Text → ℕ → List Token
+header_tokens name version =
+    item (codes "protocol") ∷ part name ∷ (version_tokens version ++ semicolon ∷ [])
+
+-- 'claim' 'atmost' NUMBER 'in' NAME NAME* ';' | 'claim' 'not' NAME 'with' NAME ';'
+abbrev pub claim_tokens : Claim → List Token
+claim_tokens (claim.AtMost most states) =
+    item (codes "claim") ∷ part (codes "atmost") ∷ number_token most ∷ part (codes "in")
+    ∷ (map part states ++ semicolon ∷ [])
+claim_tokens (claim.Apart x y) =
+    item (codes "claim") ∷ part (codes "not") ∷ part x ∷ part (codes "with") ∷ part y
+    ∷ semicolon ∷ []
+
+-- header message* 'home' process 'remote' process claim*
 abbrev pub tokens_of : Protocol → List Token
 tokens_of p =
-    item (codes "protocol")
-    ∷ part p.name
-    ∷ semicolon
-    ∷ (flat_map message_tokens p.messages
-    ++ item (codes "home") ∷ (process_tokens p.home ++ item (codes "remote") ∷ process_tokens p.remote))
+    header_tokens p.name p.version
+    ++ (flat_map message_tokens p.messages
+    ++ item (codes "home") ∷ (process_tokens p.home
+    ++ item (codes "remote") ∷ (process_tokens p.remote ++ flat_map claim_tokens p.claims)))

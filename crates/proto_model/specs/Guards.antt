@@ -43,9 +43,14 @@ after_guard body vars rule next partner v =
 abbrev pub bare_rule : Rule → Rule
 bare_rule rule = record { kind = rule.kind; conds = rule.conds; assigns = rule.assigns; next = 0 }
 
+-- the state with its guards bare
 abbrev pub bare_state : StateInfo → StateInfo
 bare_state info = record { name = info.name; rules = map bare_rule info.rules }
 
 -- the body of bare guards
 abbrev pub bare_body : Body → Body
-bare_body body = record { vars = body.vars; start = body.start; states = map bare_state body.states }
+bare_body body = record {
+  vars = body.vars;
+  start = body.start;
+  states = map bare_state body.states;
+}

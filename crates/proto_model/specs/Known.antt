@@ -1,5 +1,6 @@
--- Whether each name that a guard uses is declared, among its own kind: variables of the process,
--- messages, states of the process. The partner names of a remote's guard are not looked up.
+-- Whether each name that a guard or a claim uses is declared, among its own kind: variables of the
+-- process, messages, states of the process, for a claim those of the remote. The partner names of a
+-- remote's guard are not looked up.
 use Rattle.std.specs.Prelude.{Bool, true, ◌&&◌, List, Option, Some, None}
 use Rattle.std.specs.List.{list_all}
 use Rattle.proto_model.specs.Tokens.{Text}
@@ -7,6 +8,8 @@ use Rattle.proto_model.specs.Names.{is_declared, message_names, var_names, state
 use Rattle.proto_model.specs.declared.protocol.Message.{Message}
 use Rattle.proto_model.specs.declared.protocol.Var.{Var}
 use Rattle.proto_model.specs.declared.protocol.State.{State}
+use Rattle.proto_model.specs.declared.protocol.Claim.{Claim}
+use Rattle.proto_model.specs.declared.protocol.Claim.TheVariants as claim
 use Rattle.proto_model.specs.declared.guard.Term.{Term}
 use Rattle.proto_model.specs.declared.guard.Term.TheVariants as term
 use Rattle.proto_model.specs.declared.guard.Expr.{Expr}
@@ -80,3 +83,10 @@ knows_guard s messages vars states g =
     knows_action vars s messages g.kind
     && (list_all (knows_atom vars) g.conds
     && (list_all (knows_assign vars) g.assigns && is_declared g.next (state_names states)))
+
+-- each state that the claim names is declared
+abbrev pub knows_claim : List State → Claim → Bool
+knows_claim states (claim.AtMost most names) =
+    list_all (λ name. is_declared name (state_names states)) names
+knows_claim states (claim.Apart x y) =
+    is_declared x (state_names states) && is_declared y (state_names states)

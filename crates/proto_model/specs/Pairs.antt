@@ -9,15 +9,12 @@ use Rattle.proto_model.specs.Guards.{only_next}
 use Rattle.proto_model.specs.ValueTypes.{message_in, message_out}
 use Rattle.proto_model.specs.declared.mode.Mode.{Mode}
 use Rattle.proto_model.specs.declared.mode.Mode.TheVariants.{Plain, Lean}
-use Rattle.proto_model.specs.declared.numbered.RuleAssign.{RuleAssign}
 use Rattle.proto_model.specs.declared.numbered.RulePartner.{RulePartner}
 use Rattle.proto_model.specs.declared.numbered.RulePartner.TheVariants as partner
 use Rattle.proto_model.specs.declared.numbered.RuleKind.{RuleKind}
 use Rattle.proto_model.specs.declared.numbered.RuleKind.TheVariants as action
 use Rattle.proto_model.specs.declared.numbered.Rule.{Rule}
 use Rattle.proto_model.specs.declared.numbered.RuleAtom.{RuleAtom}
-use Rattle.proto_model.specs.declared.numbered.StateInfo.{StateInfo}
-use Rattle.proto_model.specs.declared.numbered.MessageInfo.{MessageInfo}
 use Rattle.proto_model.specs.declared.numbered.Body.{Body}
 
 -- all rules of a process, in file order
@@ -32,6 +29,7 @@ gives_message m rule = option_map_or (λ k. k == m) (message_out rule.kind) fals
 abbrev pub takes_message : ℕ → Rule → Bool
 takes_message m rule = option_map_or (λ k. k == m) (message_in rule.kind) false
 
+-- there is no condition
 abbrev pub no_atoms : List RuleAtom → Bool
 no_atoms [] = true
 no_atoms (atom ∷ atoms) = false
@@ -60,6 +58,7 @@ partner_var (partner.Any x) = Some x
 partner_var (partner.Member x s) = Some x
 partner_var (partner.Named x) = Some x
 
+-- the variable of the partner of an output
 abbrev pub output_var : RuleKind → Option ℕ
 output_var action.Tau = None
 output_var (action.Input p m bound) = None
@@ -106,6 +105,8 @@ module _ (protocol : NumberedProtocol) where
       leaves_alone x rule
       && goes_to_only protocol.home (λ input. is_from x input.kind && awaits p input) rule
 
+  -- The rule is an output of the home to a remote that a variable holds, and it awaits p from this
+  -- remote.
   abbrev pub awaits_answer : ℕ → Rule → Bool
   awaits_answer p rule = option_map_or (awaits_from_target p rule) (output_var rule.kind) false
 
@@ -119,6 +120,7 @@ module _ (protocol : NumberedProtocol) where
       && some_and_each (takes_message m) (goes_to_only protocol.remote (gives_message p))
       (all_rules protocol.remote)))
 
+  -- messages m and p are a pair, in either direction
   abbrev pub is_pair : ℕ → ℕ → Bool
   is_pair m p = is_up_pair m p || is_down_pair m p
 

@@ -2,7 +2,7 @@
 -- variables. In an event one process takes a local step, or the home and a remote move together:
 -- one gives a message by an output, the other takes it in by an input. There is no buffer, and no
 -- message is ever in transit.
-use Rattle.std.specs.Prelude.{◌≡◌, ℕ, ◌<◌, ◌≤◌, true, List, length, Option, Some, slice_get}
+use Rattle.std.specs.Prelude.{◌≡◌, ℕ, ◌<◌, ◌≤◌, true, List, length, Some, slice_get}
 use Rattle.std.specs.Prelude.{slice_set, replicate}
 use Rattle.std.specs.List.{AllByRecursion}
 use Rattle.proto_model.specs.Numbered.{NumberedProtocol}
@@ -25,7 +25,10 @@ start_part body = record { state = body.start; vars = first_values body.vars }
 
 -- the home and n remotes at the start
 abbrev pub rv_start : NumberedProtocol → ℕ → RvConfig
-rv_start protocol n = record { home = start_part protocol.home; remotes = replicate n (start_part protocol.remote) }
+rv_start protocol n = record {
+  home = start_part protocol.home;
+  remotes = replicate n (start_part protocol.remote);
+}
 
 -- rule g of the process is a local step, and it is open
 pub record TakesTau (body : Body) (part : Part) (g : ℕ) (rule : Rule) : Type 0 where
@@ -34,14 +37,16 @@ pub record TakesTau (body : Body) (part : Part) (g : ℕ) (rule : Rule) : Type 0
   pub passes : is_open part.vars rule ≡ true
 
 -- the home takes its local step g; the remotes are as they were
-pub record TauHomeStep (protocol : NumberedProtocol) (old : RvConfig) (g : ℕ) (new : RvConfig) : Type 0 where
+pub record TauHomeStep (protocol : NumberedProtocol) (old : RvConfig) (g : ℕ)
+    (new : RvConfig) : Type 0 where
   pub rule : Rule
   pub takes : TakesTau protocol.home old.home g rule
   pub home : new.home ≡ after_guard protocol.home old.home.vars rule rule.next 0 value.Unit
   pub remotes : new.remotes ≡ old.remotes
 
 -- remote j takes its local step g; the home and the other remotes are as they were
-pub record TauRemoteStep (protocol : NumberedProtocol) (old : RvConfig) (j g : ℕ) (new : RvConfig) : Type 0 where
+pub record TauRemoteStep (protocol : NumberedProtocol) (old : RvConfig) (j g : ℕ)
+    (new : RvConfig) : Type 0 where
   pub remote : Part
   pub rule : Rule
   pub there : slice_get old.remotes j ≡ Some remote
@@ -52,7 +57,8 @@ pub record TauRemoteStep (protocol : NumberedProtocol) (old : RvConfig) (j g : �
       (after_guard protocol.remote remote.vars rule rule.next 0 value.Unit)
 
 -- The one rule is an output and the other an input of the same message.
-pub record Meets (messages : List MessageInfo) (output input : Rule) (message : MessageInfo) : Type 0 where
+pub record Meets (messages : List MessageInfo) (output input : Rule)
+    (message : MessageInfo) : Type 0 where
   pub place : ℕ
   pub sent : message_out output.kind ≡ Some place
   pub received : message_in input.kind ≡ Some place
@@ -61,7 +67,8 @@ pub record Meets (messages : List MessageInfo) (output input : Rule) (message : 
 -- Remote j and the home move together: rule r of the remote is an output and rule h of the home an
 -- open input of the same message, of which j is a target. Both rules are completed, h with the
 -- value that r sends; the other remotes are as they were.
-pub record UpStep (protocol : NumberedProtocol) (old : RvConfig) (j h r : ℕ) (new : RvConfig) : Type 0 where
+pub record UpStep (protocol : NumberedProtocol) (old : RvConfig) (j h r : ℕ)
+    (new : RvConfig) : Type 0 where
   pub remote : Part
   pub output : Rule
   pub input : Rule
@@ -82,7 +89,8 @@ pub record UpStep (protocol : NumberedProtocol) (old : RvConfig) (j h r : ℕ) (
 -- The home and remote j move together: rule h of the home is an open output of which j is a target,
 -- and rule r of the remote an open input of the same message. Both rules are completed, r with the
 -- value that h sends; the other remotes are as they were.
-pub record DownStep (protocol : NumberedProtocol) (old : RvConfig) (j h r : ℕ) (new : RvConfig) : Type 0 where
+pub record DownStep (protocol : NumberedProtocol) (old : RvConfig) (j h r : ℕ)
+    (new : RvConfig) : Type 0 where
   pub remote : Part
   pub output : Rule
   pub input : Rule
@@ -97,7 +105,8 @@ pub record DownStep (protocol : NumberedProtocol) (old : RvConfig) (j h r : ℕ)
   pub home : new.home ≡ after_guard protocol.home old.home.vars output output.next j value.Unit
   pub remotes : new.remotes
       ≡ slice_set old.remotes j
-      (after_guard protocol.remote remote.vars input input.next 0 (sends old.home.vars output.kind message.carries))
+      (after_guard protocol.remote remote.vars input input.next 0
+      (sends old.home.vars output.kind message.carries))
 
 -- the event leads from the old configuration to the new one
 abbrev pub RvStep : NumberedProtocol → RvConfig → Event → RvConfig → Type 0

@@ -18,6 +18,7 @@ use Rattle.proto_model.specs.declared.rendezvous.RvConfig.{RvConfig}
 use Rattle.proto_model.specs.declared.rendezvous.Event.{Event}
 use Rattle.proto_model.specs.declared.rendezvous.Event.TheVariants as event
 
+-- the rule is a local step
 abbrev pub is_tau : RuleKind → Bool
 is_tau action.Tau = true
 is_tau (action.Input p m bound) = false
@@ -30,6 +31,7 @@ part_after_tau body part rule =
     && is_open part.vars rule then Some
     (after_guard body part.vars rule rule.next 0 value.Unit) else None
 
+-- the process after its local step by its rule g; none where rule g is no open local step
 abbrev pub tau_part : Body → Part → ℕ → Option Part
 tau_part body part g = option_and_then (part_after_tau body part) (guard_at body part.state g)
 
@@ -50,13 +52,19 @@ abbrev pub Parts : Type 0
 Parts = Part × Part
 
 module _ (protocol : NumberedProtocol) (home remote : Part) (j : ℕ) where
+  -- The home and remote j after the remote gave this message, with its value, by the output and the
+  -- home took it by the input. None where the input is not open or is of another message, or j is
+  -- no target of it.
   abbrev pub up_given : Rule → Rule → ℕ × Value → Option Parts
   up_given output input message =
       if accepts home.vars input message.0 && may_meet home.vars input.kind j
-      then Some
-      (after_guard protocol.home home.vars input input.next j message.1, after_guard protocol.remote remote.vars output output.next 0 value.Unit)
+      then Some (
+        after_guard protocol.home home.vars input input.next j message.1,
+        after_guard protocol.remote remote.vars output output.next 0 value.Unit,
+      )
       else None
 
+  -- the same with the message that the output gives; none where it gives none
   abbrev pub up_by : Rule → Rule → Option Parts
   up_by output input =
       option_and_then (up_given output input) (given protocol.messages remote.vars output.kind)
@@ -68,13 +76,19 @@ module _ (protocol : NumberedProtocol) (home remote : Part) (j : ℕ) where
       (λ output. option_and_then (up_by output) (guard_at protocol.home home.state h))
       (guard_at protocol.remote remote.state r)
 
+  -- The home and remote j after the home gave this message, with its value, by the output and the
+  -- remote took it by the input. None where the input is not open or is of another message.
   abbrev pub down_given : Rule → Rule → ℕ × Value → Option Parts
   down_given output input message =
       if accepts remote.vars input message.0
-      then Some
-      (after_guard protocol.home home.vars output output.next j value.Unit, after_guard protocol.remote remote.vars input input.next 0 message.1)
+      then Some (
+        after_guard protocol.home home.vars output output.next j value.Unit,
+        after_guard protocol.remote remote.vars input input.next 0 message.1,
+      )
       else None
 
+  -- The same with the message that the output gives. None where the output is not open or gives
+  -- none, or j is no target of it.
   abbrev pub down_by : Rule → Rule → Option Parts
   down_by output input =
       if is_open home.vars output && may_meet home.vars output.kind j
@@ -99,7 +113,9 @@ rv_next protocol config (event.TauHome g) =
     (tau_part protocol.home config.home g)
 rv_next protocol config (event.TauRemote j g) =
     option_and_then
-    (λ remote. option_map (λ part. with_parts config j (config.home, part)) (tau_part protocol.remote remote g))
+    (λ remote.
+    option_map (λ part. with_parts config j (config.home, part))
+    (tau_part protocol.remote remote g))
     (slice_get config.remotes j)
 rv_next protocol config (event.Up j h r) =
     option_and_then

@@ -1,5 +1,6 @@
--- Which protocols a file can say: each name is a NAME, and each number is from 0 to 99,999.
-use Rattle.std.specs.Prelude.{Option, Some, None}
+-- Which protocols a file can say: each name is a NAME, each number is from 0 to 99,999, the version
+-- is 1 or 2, version 1 has no claims, and each claim on at most so many remotes names a state.
+use Rattle.std.specs.Prelude.{◌≡◌, ◌⊎◌, ℕ, List, [], ◌∷◌, Option, Some, None}
 use Rattle.std.specs.List.{AllByRecursion}
 use Rattle.proto_model.specs.Tokens.{Text, IsName, IsNumber}
 use Rattle.proto_model.specs.declared.protocol.Carry.{Carry}
@@ -12,6 +13,8 @@ use Rattle.proto_model.specs.declared.protocol.Initial.TheVariants as first
 use Rattle.proto_model.specs.declared.protocol.Var.{Var}
 use Rattle.proto_model.specs.declared.protocol.State.{State}
 use Rattle.proto_model.specs.declared.protocol.Process.{Process}
+use Rattle.proto_model.specs.declared.protocol.Claim.{Claim}
+use Rattle.proto_model.specs.declared.protocol.Claim.TheVariants as claim
 use Rattle.proto_model.specs.declared.protocol.Protocol.{Protocol}
 use Rattle.proto_model.specs.declared.guard.Term.{Term}
 use Rattle.proto_model.specs.declared.guard.Term.TheVariants as term
@@ -120,9 +123,26 @@ pub record IsSayableProcess (p : Process) : Type 0 where
   pub start : IsName p.start
   pub states : AllByRecursion IsSayableState p.states
 
--- each name of the protocol is a NAME, and each number is from 0 to 99,999
+-- there is at least one name, and each is a NAME
+abbrev pub AreNames : List Text → Type 0
+AreNames [] = ⊥
+AreNames (name ∷ names) = IsName name × AllByRecursion IsName names
+
+-- a claim: its number is one that a file can write, and its states, at least one, are NAMEs
+abbrev pub IsSayableClaim : Claim → Type 0
+IsSayableClaim (claim.AtMost most states) = IsNumber most × AreNames states
+IsSayableClaim (claim.Apart x y) = IsName x × IsName y
+
+-- the version is 1 and there are no claims, or it is 2
+abbrev pub IsSayableVersion : ℕ → List Claim → Type 0
+IsSayableVersion version claims = ((version ≡ 1) × (claims ≡ [])) ⊎ (version ≡ 2)
+
+-- each name of the protocol is a NAME, each number is from 0 to 99,999, and there are claims in a
+-- version alone that has them
 pub record IsSayable (p : Protocol) : Type 0 where
   pub name : IsName p.name
+  pub version : IsSayableVersion p.version p.claims
   pub messages : AllByRecursion IsSayableMessage p.messages
   pub home : IsSayableProcess p.home
   pub remote : IsSayableProcess p.remote
+  pub claims : AllByRecursion IsSayableClaim p.claims

@@ -1,5 +1,6 @@
 -- The texts of values, messages with their values, variables, rendezvous lines and events.
-use Rattle.std.specs.Prelude.{ℕ, Bool, true, false, List, [], ◌∷◌, ◌++◌, Option, Some, None, slice_get, map, codes, decimal}
+use Rattle.std.specs.Prelude.{ℕ, Bool, true, false, List, [], ◌∷◌, ◌++◌, Option, Some, None}
+use Rattle.std.specs.Prelude.{slice_get, map, codes, decimal}
 use Rattle.std.specs.Option.{option_map_or}
 use Rattle.std.specs.List.{join_with_byte}
 use Rattle.proto_model.specs.Tokens.{Text}
@@ -24,10 +25,12 @@ abbrev pub separator : Bool → Text
 separator true = []
 separator false = codes ","
 
+-- a member of a set, with what stands before it
 abbrev pub member_text : Bool → ℕ → Text
 member_text first j = separator first ++ decimal j
 
--- An int is its decimal text. A node is `#` and its number, or `none`. A set is its members in braces.
+-- An int is its decimal text. A node is `#` and its number, or `none`. A set is its members in
+-- braces.
 abbrev pub value_text : Value → Text
 value_text value.Unit = []
 value_text (value.Int k) = decimal k
@@ -67,7 +70,9 @@ state_name body part = option_map_or (λ state. state.name) (slice_get body.stat
 
 -- the rendezvous line of the home, or of a remote: its state and its variables
 abbrev pub rv_line : Body → Part → Option ℕ → Text
-rv_line body part remote = process_text remote ++ (state_name body part ++ (vars_text body.vars part.vars ++ codes "\n"))
+rv_line body part remote =
+    process_text remote
+    ++ (state_name body part ++ (vars_text body.vars part.vars ++ codes "\n"))
 
 -- a number behind an event's first words
 abbrev pub argument : ℕ → Text

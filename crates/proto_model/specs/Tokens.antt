@@ -1,5 +1,6 @@
 -- The bytes of a protocol file, and its tokens.
-use Rattle.std.specs.Prelude.{◌≡◌, ◌<◌, ℕ, Bool, true, false, ◌&&◌, ◌||◌, ◌==◌, nat_le, List, [], ◌∷◌, codes}
+use Rattle.std.specs.Prelude.{◌≡◌, ◌<◌, ℕ, Bool, true, false, ◌&&◌, ◌||◌, ◌==◌, nat_le, List, []}
+use Rattle.std.specs.Prelude.{◌∷◌, codes}
 use Rattle.std.specs.List.{list_any}
 use Rattle.std.specs.Str.{bytes_eq}
 
@@ -7,6 +8,7 @@ use Rattle.std.specs.Str.{bytes_eq}
 abbrev pub Text : Type 0
 Text = List ℕ
 
+-- 0 to 9
 abbrev pub is_digit : ℕ → Bool
 is_digit b = nat_le 48 b && nat_le b 57
 
@@ -37,14 +39,17 @@ abbrev pub AllWord : Text → Type 0
 AllWord [] = Unit {0}
 AllWord (b ∷ bs) = (is_word b ≡ true) × AllWord bs
 
--- the words that are no names; version, claim, atmost, not and with stand in no rule of the grammar
+-- the words that are no names, whatever the version of the file
 abbrev pub reserved : List Text
 reserved =
-    codes "protocol" ∷ codes "version" ∷ codes "message" ∷ codes "up" ∷ codes "down" ∷ codes "int" ∷ codes "node" ∷ codes "set"
-    ∷ codes "home" ∷ codes "remote" ∷ codes "var" ∷ codes "start" ∷ codes "state" ∷ codes "tau" ∷ codes "from" ∷ codes "to"
-    ∷ codes "any" ∷ codes "in" ∷ codes "notin" ∷ codes "eq" ∷ codes "ne" ∷ codes "lt" ∷ codes "le" ∷ codes "and" ∷ codes "when"
-    ∷ codes "do" ∷ codes "goto" ∷ codes "none" ∷ codes "empty" ∷ codes "claim" ∷ codes "atmost" ∷ codes "not" ∷ codes "with" ∷ []
+    codes "protocol" ∷ codes "version" ∷ codes "message" ∷ codes "up" ∷ codes "down"
+    ∷ codes "int" ∷ codes "node" ∷ codes "set" ∷ codes "home" ∷ codes "remote"
+    ∷ codes "var" ∷ codes "start" ∷ codes "state" ∷ codes "tau" ∷ codes "from" ∷ codes "to"
+    ∷ codes "any" ∷ codes "in" ∷ codes "notin" ∷ codes "eq" ∷ codes "ne" ∷ codes "lt" ∷ codes "le"
+    ∷ codes "and" ∷ codes "when" ∷ codes "do" ∷ codes "goto" ∷ codes "none" ∷ codes "empty"
+    ∷ codes "claim" ∷ codes "atmost" ∷ codes "not" ∷ codes "with" ∷ []
 
+-- the text is a reserved word
 unfoldable pub is_reserved : Text → Bool
 is_reserved text = list_any (bytes_eq text) reserved
 
@@ -59,7 +64,7 @@ abbrev pub IsNumber : ℕ → Type 0
 IsNumber n = n < 100000
 
 -- A token is its spelling. It is marked where it is the first token of an item: the header, a
--- message, the word home or remote, a variable, a start, a state or a guard.
+-- message, the word home or remote, a variable, a start, a state, a guard or a claim.
 pub record Token : Type 0 where
   pub text : Text
   pub begins : Bool
@@ -72,6 +77,7 @@ item text = record { text = text; begins = true }
 abbrev pub part : Text → Token
 part text = record { text = text; begins = false }
 
+-- the spelling of each token
 abbrev pub spellings : List Token → List Text
 spellings [] = []
 spellings (t ∷ ts) = t.text ∷ spellings ts

@@ -23,6 +23,7 @@ carried_type (carry.Int n) = Some type.Int
 carried_type carry.Node = Some type.Node
 carried_type carry.Set = Some type.Set
 
+-- the two types are the same
 abbrev pub same_type : ValueType → ValueType → Bool
 same_type type.Int type.Int = true
 same_type type.Node type.Node = true

@@ -31,6 +31,7 @@ IsNode value.Nowhere = Unit {0}
 IsNode (value.Node j) = j < 64
 IsNode (value.Set s) = ⊥
 
+-- a set of remotes
 abbrev pub IsSet : Value → Type 0
 IsSet value.Unit = ⊥
 IsSet (value.Int k) = ⊥
@@ -60,7 +61,8 @@ AreOfKinds (i ∷ is) (v ∷ vs) = IsOfKind i.kind v × AreOfKinds is vs
 
 -- the value is of the type of the message at this place
 abbrev pub IsCarriedBy : List MessageInfo → ℕ → Value → Type 0
-IsCarriedBy messages place v = (info : MessageInfo) → slice_get messages place ≡ Some info → IsCarried info.carries v
+IsCarriedBy messages place v =
+    (info : MessageInfo) → slice_get messages place ≡ Some info → IsCarried info.carries v
 
 -- where the rule is an input, the value is of its message's type
 abbrev pub IsReceived : List MessageInfo → RuleKind → Value → Type 0
@@ -88,9 +90,10 @@ pub record Offers (messages : List MessageInfo) (rule : Rule) (carries : Carry) 
   pub there : slice_get messages place ≡ Some message
   pub same : message.carries ≡ carries
 
--- It is a proper rule of a process with these declarations, in a protocol with these messages, and each
--- variable has a value of its type.
-pub record IsTyped (messages : List MessageInfo) (infos : List VarInfo) (vars : List Value) (rule : Rule) : Type 0 where
+-- It is a proper rule of a process with these declarations, in a protocol with these messages, and
+-- each variable has a value of its type.
+pub record IsTyped (messages : List MessageInfo) (infos : List VarInfo) (vars : List Value)
+    (rule : Rule) : Type 0 where
   pub side : Side
   pub states : ℕ
   pub proper_carries : AllByRecursion (λ m. IsProperCarry m.carries) messages

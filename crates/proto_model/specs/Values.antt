@@ -1,6 +1,7 @@
 -- The values that rules compute with: what an expression is worth, whether a rule is open, whom it
 -- may meet, what it sends, and the variables after it is completed.
-use Rattle.std.specs.Prelude.{ℕ, ◌+◌, ◌-◌, ◌%◌, Bool, true, false, not, ◌==◌, nat_lt, nat_le, List, slice_get, slice_set, Option, Some, None, unwrap_or, map, fold}
+use Rattle.std.specs.Prelude.{ℕ, ◌+◌, ◌-◌, ◌%◌, Bool, true, false, not, ◌==◌, nat_lt, nat_le, List}
+use Rattle.std.specs.Prelude.{slice_get, slice_set, Option, Some, None, unwrap_or, map, fold}
 use Rattle.std.specs.Option.{option_map_or}
 use Rattle.std.specs.List.{list_all}
 use Rattle.proto_model.specs.NodeSets.{has_node, with_node, without_node, nodes_below}
@@ -37,6 +38,7 @@ minus (value.Int a) (value.Int b) = value.Int ((a + 65536 - b) % 65536)
 minus (value.Set s) (value.Node j) = value.Set (without_node s j)
 minus a _ = a
 
+-- the two values are the same
 abbrev pub same_value : Value → Value → Bool
 same_value value.Unit value.Unit = true
 same_value (value.Int a) (value.Int b) = a == b
@@ -103,6 +105,7 @@ module _ (vars : List Value) where
   abbrev pub var_value : ℕ → Value
   var_value place = unwrap_or (slice_get vars place) value.Unit
 
+  -- what a term is worth: none is no remote, empty the set without a remote
   abbrev pub term_value : RuleTerm → Value
   term_value (term.Number n) = value.Int n
   term_value (term.Var place) = var_value place
@@ -123,8 +126,8 @@ module _ (vars : List Value) where
   abbrev pub is_open : Rule → Bool
   is_open rule = list_all holds rule.conds
 
-  -- Remote j is a target: of `any x` each remote is, of `any x in s` each in s, of `x` the one that x
-  -- holds. The partner `home` has no targets.
+  -- Remote j is a target: of `any x` each remote is, of `any x in s` each in s, of `x` the one that
+  -- x holds. The partner `home` has no targets.
   abbrev pub is_target : RulePartner → ℕ → Bool
   is_target partner.Home j = false
   is_target (partner.Any x) j = true
@@ -152,6 +155,7 @@ module _ (vars : List Value) where
   sends (action.Input p m bound) carries = value.Unit
   sends (action.Output p m sent) carries = reduced carries (offered sent)
 
+-- the first value of each variable
 abbrev pub first_values : List VarInfo → List Value
 first_values infos = map (λ info. info.first) infos
 
@@ -183,10 +187,12 @@ module _ (infos : List VarInfo) where
   after_meeting vars (action.Input p m bound) j v = with_bound (with_partner vars p j) bound v
   after_meeting vars (action.Output p m sent) j v = with_partner vars p j
 
+  -- the variables after this assignment
   abbrev pub after_assign : List Value → RuleAssign → List Value
   after_assign vars a = with_var vars a.var (value_of vars a.value)
 
-  -- The variables after the rule is completed with partner j and value v: the partner variable is set,
-  -- then the bound variable, and then the assignments are made in order, each seeing the ones before.
+  -- The variables after the rule is completed with partner j and value v: the partner variable is
+  -- set, then the bound variable, and then the assignments are made in order, each seeing the ones
+  -- before.
   abbrev pub completed : List Value → Rule → ℕ → Value → List Value
   completed vars rule j v = fold after_assign (after_meeting vars rule.kind j v) rule.assigns

@@ -16,8 +16,9 @@ use std::alloc::Global;
 use std::mem;
 
 /// Appends the laid-out text of the protocol: one line for the header, each message, the first and
-/// last line of each process and state, each variable, start and guard. After `NoMemory` the vector
-/// is as before followed by a front of the text.
+/// last line of each process and state, each variable, start, guard and claim. The header of
+/// version 1 names no version. After `NoMemory` the vector is as before followed by a front of the
+/// text.
 pub fn print(alloc: Global, protocol: &Protocol, out: &mut Vec<u8>) -> Result<(), NoMemory>
     ensures text { Appends (laid_out protocol.now) result out.old.items out.new.items }
 

@@ -7,6 +7,7 @@
 //! - `values`: how expressions, conditions and guards compute.
 //! - `layout`: the laid-out text of a protocol.
 //! - `texts`: the texts of values, events and processes.
+//! - `appending`: how both put their texts together.
 //! - `copies`: copies of the parts of a protocol.
 //! - `laws`: what follows from the definitions alone.
 //!
@@ -14,6 +15,7 @@
 //! faults, of values, of guards and of the rendezvous meaning, and of requests and their replies.
 #![tactic(auto)]
 
+mod appending;
 mod copies;
 mod guard;
 mod laws;
@@ -32,10 +34,12 @@ pub use layout::print;
 pub use mode::Mode;
 pub use name::Name;
 pub use numbered::{
-    Body, MessageInfo, Rule, RuleAssign, RuleAtom, RuleExpr, RuleKind, RulePartner, RuleTerm, Side,
-    StateInfo, Value, ValueType, VarInfo,
+    Body, MessageInfo, Rule, RuleAssign, RuleAtom, RuleClaim, RuleExpr, RuleKind, RulePartner,
+    RuleTerm, Side, StateInfo, Value, ValueType, VarInfo,
 };
-pub use protocol::{Carry, Initial, Message, Process, Protocol, State, Var, VarKind};
+pub use protocol::{Carry, Claim, Initial, Message, Process, Protocol, State, Var, VarKind};
 pub use rendezvous::{Event, Part, RvConfig};
 pub use texts::{event_text, message_text, rv_line, vars_text};
-pub use values::{Vars, complete, eval, first_vars, guard_open, is_target, send_value, targets};
+pub use values::{
+    Vars, complete, eval, first_vars, guard_open, has_node, is_target, send_value, targets,
+};

@@ -123,3 +123,12 @@ pub struct Body {
     pub start: u8,
     pub states: Items<StateInfo>,
 }
+
+/// A claim in numbered form. `AtMost(m, states)`: at most m remotes stand in one of the states,
+/// where bit s of the set stands for the state at place s of the remote. `Apart(x, y)`: no two
+/// different remotes stand the one in the state at place x and the other in that at place y.
+#[derive(Clone, Copy, Debug, PartialEq, Eq, Drop)]
+pub enum RuleClaim {
+    AtMost(u8, u64),
+    Apart(u8, u8),
+}

@@ -61,11 +61,23 @@ pub struct Process {
     pub states: Items<State>,
 }
 
-/// A protocol as its file names it.
+/// What must hold of the states in which the remotes stand. `AtMost(m, states)`: at most m remotes
+/// stand in one of the states. `Apart(x, y)`: no two different remotes stand the one in x and the
+/// other in y.
+#[derive(Debug, Drop)]
+pub enum Claim {
+    AtMost(u32, Items<Name>),
+    Apart(Name, Name),
+}
+
+/// A protocol as its file names it. `version` is that of the language, 1 or 2 in a file. `claims`
+/// are in file order; a file of version 1 has none.
 #[derive(Debug, Drop)]
 pub struct Protocol {
     pub name: Name,
+    pub version: u8,
     pub messages: Items<Message>,
     pub home: Process,
     pub remote: Process,
+    pub claims: Items<Claim>,
 }

@@ -7,7 +7,7 @@ mod vars;
 
 pub use completing::{complete, first_vars};
 pub use evaluation::{eval, guard_open, is_target, send_value, targets};
-pub(crate) use node_sets::has_node;
+pub use node_sets::has_node;
 pub use vars::Vars;
 
 #[cfg(test)]

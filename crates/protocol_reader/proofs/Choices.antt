@@ -84,6 +84,58 @@ token_rule t some = record {
 
 -- ---- another form of a value
 
+-- The parts of an allowed value make it again, and what is made of allowed parts is allowed and has
+-- these parts. What is not allowed need not be made of any.
+pub made_rule : {A B : Type 0} {p : Reader A} {tokens : A → List Token} {P : A → Type 0}
+    {s : A → Text → Bool} {tokens2 : B → List Token} {P2 : B → Type 0} {s2 : B → Text → Bool}
+    → IsRule p tokens P s
+    → (make : A → B) (parts : B → A)
+    → ((b : B) → P2 b → make (parts b) ≡ b) → ((a : A) → parts (make a) ≡ a)
+    → ((b : B) → P2 b → tokens2 b ≡ tokens (parts b)) → ((b : B) → P2 b → P (parts b))
+    → ((a : A) → P a → P2 (make a)) → ((b : B) (t : Text) → s2 b t ≡ s (parts b) t)
+    → IsRule (mapped make p) tokens2 P2 s2
+made_rule {A = A} {B = B} {p = p} {tokens = tokens} {P = P} {s = s} {tokens2 = tokens2} {P2 = P2}
+    {s2 = s2} rule make parts whole part spelled into onto stopped = record {
+      takes = λ at new x e.
+          via_bind (p at) _ _ e (λ a mid e1 e2.
+          let t = rule.takes at mid a e1 in
+          let ok = onto a t.ok in
+          let same : tokens2 (make a) ≡ tokens a = spelled (make a) ok ∙ ap tokens (part a) in
+          takes_done (make a) x at mid new e2 (record {
+            ok = ok;
+            took = subst (λ (ts : List Token). Took at ts mid) (sym same) t.took;
+            stop = stopped (make a) (text_at mid)
+                ∙ ap (λ (c : A). s c (text_at mid)) (part a) ∙ t.stop;
+          }));
+      again = λ at new b ok took stop.
+          let h = rule.again at new (parts b) (into b ok)
+          (subst (λ (ts : List Token). Took at ts new) (spelled b ok) took)
+          (sym (stopped b (text_at new)) ∙ stop) in
+          ap (λ (o : Outcome A). and_then o (λ a. pure (make a))) h
+          ∙ ap (λ (c : B). done c new) (whole b ok);
+      stuck = λ at n e.
+          fail_bind (p at) _ n e
+          (λ e1.
+          let st = rule.stuck at n e1 in
+          let ok = onto st.value st.ok in
+          record {
+            before = st.before;
+            mid = st.mid;
+            took = st.took;
+            is_line = st.is_line;
+            value = make st.value;
+            more = st.more;
+            ok = ok;
+            completes = spelled (make st.value) ok ∙ ap tokens (part st.value) ∙ st.completes;
+            again = λ a m took like. let h = st.again a m took like in
+                (h.0, ap (λ (o : Outcome A). and_then o (λ a. pure (make a))) h.1);
+          })
+          (λ a mid e1 e2. not_failed (make a) mid n e2);
+      some = make rule.some;
+      some_ok = onto rule.some rule.some_ok;
+    }
+
+-- each value is made of its parts
 pub mapped_rule : {A B : Type 0} {p : Reader A} {tokens : A → List Token} {P : A → Type 0}
     {s : A → Text → Bool} {tokens2 : B → List Token} {P2 : B → Type 0} {s2 : B → Text → Bool}
     → IsRule p tokens P s
@@ -92,46 +144,9 @@ pub mapped_rule : {A B : Type 0} {p : Reader A} {tokens : A → List Token} {P :
     → ((b : B) → tokens2 b ≡ tokens (parts b)) → ((b : B) → P2 b → P (parts b))
     → ((b : B) → P (parts b) → P2 b) → ((b : B) (t : Text) → s2 b t ≡ s (parts b) t)
     → IsRule (mapped make p) tokens2 P2 s2
-mapped_rule {A = A} {B = B} {p = p} {tokens = tokens} {P = P} {s = s} {tokens2 = tokens2} {P2 = P2}
-    {s2 = s2} rule make parts whole part spelled into onto stopped = record {
-      takes = λ at new x e.
-          via_bind (p at) _ _ e (λ a mid e1 e2.
-          let same = done_is (make a) x mid new e2 in
-          let t = rule.takes at mid a e1 in
-          let a_is : a ≡ parts x = sym (part a) ∙ ap parts same.0 in
-          let there : Takes tokens P s at (parts x) mid =
-          subst (λ (c : A). Takes tokens P s at c mid) a_is t in
-          let here : Takes tokens P s at (parts x) new =
-          subst (λ (z : At). Takes tokens P s at (parts x) z) same.1 there in
-          record {
-            ok = onto x here.ok;
-            took = subst (λ (ts : List Token). Took at ts new) (sym (spelled x)) here.took;
-            stop = stopped x (text_at new) ∙ here.stop;
-          });
-      again = λ at new b ok took stop.
-          let h = rule.again at new (parts b) (into b ok)
-          (subst (λ (ts : List Token). Took at ts new) (spelled b) took)
-          (sym (stopped b (text_at new)) ∙ stop) in
-          ap (λ (o : Outcome A). and_then o (λ a. pure (make a))) h
-          ∙ ap (λ (c : B). done c new) (whole b);
-      stuck = λ at n e.
-          fail_bind (p at) _ n e
-          (λ e1. let st = rule.stuck at n e1 in record {
-            before = st.before;
-            mid = st.mid;
-            took = st.took;
-            is_line = st.is_line;
-            value = make st.value;
-            more = st.more;
-            ok = onto (make st.value) (subst P (sym (part st.value)) st.ok);
-            completes = spelled (make st.value) ∙ ap tokens (part st.value) ∙ st.completes;
-            again = λ a m took like. let h = st.again a m took like in
-                (h.0, ap (λ (o : Outcome A). and_then o (λ a. pure (make a))) h.1);
-          })
-          (λ a mid e1 e2. not_failed (make a) mid n e2);
-      some = make rule.some;
-      some_ok = onto (make rule.some) (subst P (sym (part rule.some)) rule.some_ok);
-    }
+mapped_rule {P = P} rule make parts whole part spelled into onto stopped =
+    made_rule rule make parts (λ b ok. whole b) part (λ b ok. spelled b) into
+    (λ a ok. onto (make a) (subst P (sym (part a)) ok)) stopped
 
 -- ---- a choice by the next token
 

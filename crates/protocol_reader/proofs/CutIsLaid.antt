@@ -47,7 +47,7 @@ no_space_no_line_feed b other = λ (e : b ≡ 10).
     let same = ap is_space e in
     cc
 
-NoLineFeed-line_feeds : (text : Text) → NoLineFeed text → line_feeds text ≡ 0
+pub NoLineFeed-line_feeds : (text : Text) → NoLineFeed text → line_feeds text ≡ 0
 NoLineFeed-line_feeds [] free = refl
 NoLineFeed-line_feeds (b ∷ bs) free = other_byte b bs free.0 ∙ NoLineFeed-line_feeds bs free.1
 

@@ -22,7 +22,7 @@ use Rattle.protocol_reader.proofs.Taking.{Took}
 use Rattle.protocol_reader.proofs.TakenTexts.{took_front, took_texts, texts_took, took_lines}
 use Rattle.protocol_reader.proofs.Rule.{done, done_is, failed, failed_is, not_failed}
 use Rattle.protocol_reader.proofs.Rule.{not_done, via_bind, fail_bind}
-use Rattle.protocol_reader.proofs.ProcessRules.{protocol_rule}
+use Rattle.protocol_reader.proofs.ProtocolRule.{protocol_rule, protocol_stops, protocol_end}
 
 -- where reading a file begins
 abbrev pub start_of : Text → At
@@ -39,6 +39,31 @@ is_ending : (ls : List Lexeme) (t : Text) → texts ls ≡ t ∷ [] → is_end l
 is_ending [] t e = absurd cc
 is_ending (l ∷ []) t e = refl
 is_ending (l ∷ m ∷ ls) t e = absurd (let h : m.text ∷ texts ls ≡ [] = cc in cc)
+
+-- ---- the next text
+
+first_text : (ls : List Lexeme) (t : Text) (ts : List Text) → texts ls ≡ t ∷ ts
+    → (first_of_all ls).text ≡ t
+first_text [] t ts e = absurd cc
+first_text (l ∷ ls) t ts e = cc
+
+text_first : (at : At) (t : Text) (ts : List Text) → texts at.lexemes ≡ t ∷ ts → text_at at ≡ t
+unfolding text_at
+text_first at t ts e = first_text at.lexemes t ts e
+
+no_text : (ls : List Lexeme) → texts ls ≡ [] → (first_of_all ls).text ≡ []
+no_text [] e = refl
+no_text (l ∷ ls) e = absurd cc
+
+text_none : (at : At) → texts at.lexemes ≡ [] → text_at at ≡ []
+unfolding text_at
+text_none at e = no_text at.lexemes e
+
+-- at the end of a file a protocol stops
+end_stops : (p : Protocol) (at : At) → text_at at ≡ [] → protocol_stops p (text_at at) ≡ true
+end_stops p at e = ap (protocol_stops p) e ∙ protocol_end p
+
+-- ---- what is left
 
 -- lists with one more at the end
 same_fronts : (xs ys : List Text) (x y : Text) → xs ++ x ∷ [] ≡ ys ++ y ∷ [] → xs ≡ ys
@@ -118,7 +143,8 @@ file_again bytes p s =
     let whole = laid_cut bytes (spellings (tokens_of p)) (protocol_lexemes p s.sayable) s.laid in
     let t = texts_took (tokens_of p) (start_of bytes) ([] ∷ []) whole in
     let ends = is_ending t.0.lexemes [] t.2 in
-    (t.0, rw (protocol_rule.again (start_of bytes) t.0 p s.sayable t.1 refl, ends) refl)
+    let stop = end_stops p t.0 (text_first t.0 [] [] t.2) in
+    (t.0, rw (protocol_rule.again (start_of bytes) t.0 p s.sayable t.1 stop, ends) refl)
 
 pub spelled_once : (bytes : Text) (p q : Protocol) → Spells bytes p → Spells bytes q → p ≡ q
 spelled_once bytes p q s t =
@@ -147,7 +173,8 @@ read_again : (p : Protocol) → IsSayable p
 read_again p ok =
     let t = texts_took (tokens_of p) (place (spellings (tokens_of p))) []
     (texts_written (spellings (tokens_of p)) ∙ sym (append-nil (spellings (tokens_of p)))) in
-    (t.0, protocol_rule.again (place (spellings (tokens_of p))) t.0 p ok t.1 refl, t.2)
+    let stop = end_stops p t.0 (text_none t.0 t.2) in
+    (t.0, protocol_rule.again (place (spellings (tokens_of p))) t.0 p ok t.1 stop, t.2)
 
 -- a front of them can be taken, and then stands the next one
 front_again : (ts : List Token) (p : Protocol) (here : Text) (more : List Text)
@@ -156,15 +183,6 @@ front_again : (ts : List Token) (p : Protocol) (here : Text) (more : List Text)
 front_again ts p here more e =
     texts_took ts (place (spellings (tokens_of p))) (here ∷ more)
     (texts_written (spellings (tokens_of p)) ∙ e ∙ append_assoc (spellings ts) (here ∷ []) more)
-
-first_text : (ls : List Lexeme) (t : Text) (ts : List Text) → texts ls ≡ t ∷ ts
-    → (first_of_all ls).text ≡ t
-first_text [] t ts e = absurd cc
-first_text (l ∷ ls) t ts e = cc
-
-text_first : (at : At) (t : Text) (ts : List Text) → texts at.lexemes ≡ t ∷ ts → text_at at ≡ t
-unfolding text_at
-text_first at t ts e = first_text at.lexemes t ts e
 
 line_first : (at : At) (here : Lexeme) (rest : List Lexeme) → at.lexemes ≡ here ∷ rest
     → line_at at ≡ here.line
@@ -226,6 +244,8 @@ stuck_behind bytes line p mid whole e is_line =
     next_left mid.lexemes
     (some_left bytes (tokens_of p) mid t.took (protocol_lexemes p t.ok)) in
     let f = took_front (tokens_of p) (start_of bytes) mid t.took in
+    let here_text : text_at mid ≡ left.0.text =
+    text_first mid left.0.text (texts left.1) (ap texts left.2) in
     record {
       spells_none = none_spelled bytes line whole;
       front = f.front;
@@ -244,7 +264,9 @@ stuck_behind bytes line p mid whole e is_line =
           ++ v.1 = v.3 ∙ ap (λ (u : List Text). (u ++ left.0.text ∷ []) ++ v.1) f.are in
           let good = read_again v.0 v.2 in
           let m = front_again (tokens_of p) v.0 left.0.text v.1 e2 in
-          let other = protocol_rule.again (place (spellings (tokens_of v.0))) m.0 p t.ok m.1 refl in
+          let stop =
+          ap (protocol_stops p) (text_first m.0 left.0.text v.1 m.2 ∙ sym here_text) ∙ t.stop in
+          let other = protocol_rule.again (place (spellings (tokens_of v.0))) m.0 p t.ok m.1 stop in
           let same = done_is v.0 p good.0 m.0 (sym good.1 ∙ other) in
           let none : [] ≡ left.0.text ∷ v.1 =
           sym good.2 ∙ ap (λ (a : At). texts a.lexemes) same.1 ∙ m.2 in

@@ -257,7 +257,7 @@ pub and_rule : IsRule and_atom (led_by (codes "and") atom_tokens) IsSayableAtom 
 unfolding and_atom
 and_rule = led_by_rule (codes "and") refl atom_rule
 
-pub and_begins : Begins (codes "and" ∷ [])
+pub and_begins : Begins (is_among (codes "and" ∷ []))
     (led_by (codes "and") atom_tokens) IsSayableAtom atom_stops
 and_begins = between (codes "and") refl (λ a. expr_stops_before (codes "and") refl a.right)
 
@@ -298,7 +298,7 @@ pub comma_rule : IsRule comma_assignment
 unfolding comma_assignment
 comma_rule = led_by_rule (codes ",") refl assign_rule
 
-pub comma_begins : Begins (codes "," ∷ [])
+pub comma_begins : Begins (is_among (codes "," ∷ []))
     (led_by (codes ",") assign_tokens) IsSayableAssign assign_stops
 comma_begins = between (codes ",") refl (λ a. expr_stops_before (codes ",") refl a.value)
 
@@ -675,7 +675,7 @@ kind_among action.Tau = refl
 kind_among (action.Input p m b) = refl
 kind_among (action.Output p m v) = refl
 
-pub guard_begins : Begins guard_words guard_tokens IsSayableGuard free
+pub guard_begins : Begins (is_among guard_words) guard_tokens IsSayableGuard free
 guard_begins = record {
   first = λ g. kind_first g.kind;
   rest = λ g.
@@ -683,6 +683,6 @@ guard_begins = record {
       ++ (conds_tokens g.conds
       ++ (assigns_tokens g.assigns ++ part (codes "goto") ∷ part g.next ∷ semicolon ∷ []));
   parts = λ g ok. kind_split g.kind _;
-  is_word = λ g ok. kind_among g.kind;
+  first_comes = λ g ok. kind_among g.kind;
   stops = λ g t ok e. refl;
 }

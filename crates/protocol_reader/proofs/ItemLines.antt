@@ -1,7 +1,11 @@
 -- Each item of a protocol that a file spells has a line.
-use Rattle.std.proofs.Common.{◌≡◌, ℕ, ◌+◌, Bool, true, false, cond, List, [], ◌∷◌, ◌++◌, length}
-use Rattle.std.proofs.Common.{codes, Option, Some, None, refl, sym, ap, ◌∙◌, arith, length-append}
+use Rattle.std.proofs.Common.{◌≡◌, ℕ, ◌+◌, eqb, Bool, true, false, cond, List, [], ◌∷◌, ◌++◌}
+use Rattle.std.proofs.Common.{length, map, codes, Option, Some, None, refl, sym, ap, ◌∙◌, inl, inr}
+use Rattle.std.proofs.Common.{arith, length-append}
+use Rattle.std.proofs.lemmas.Bool.{cases_Bool}
 use Rattle.std.specs.List.{flat_map}
+use Rattle.rv_base.specs.Lists.{map_from}
+use Rattle.rv_base.proofs.Lists.{length-map_from}
 use Rattle.proto_model.specs.Tokens.{Text, Token, item, part, spellings}
 use Rattle.proto_model.specs.Lexemes.{Lexeme, lexemes}
 use Rattle.proto_model.specs.Grammar.{semicolon, closing, carry_tokens, conds_tokens}
@@ -9,9 +13,10 @@ use Rattle.proto_model.specs.Grammar.{assigns_tokens, partner_tokens, bound_toke
 use Rattle.proto_model.specs.Grammar.{action_tokens, expr_tokens, atom_tokens, assign_tokens}
 use Rattle.proto_model.specs.Grammar.{kind_tokens, direction_token, initial_token, rel_token}
 use Rattle.proto_model.specs.Grammar.{message_tokens, var_tokens, guard_tokens, state_tokens}
-use Rattle.proto_model.specs.Grammar.{process_tokens, tokens_of}
+use Rattle.proto_model.specs.Grammar.{process_tokens, version_tokens, header_tokens, claim_tokens}
+use Rattle.proto_model.specs.Grammar.{tokens_of}
 use Rattle.proto_model.specs.Spelled.{Spells, texts, marked_lines, item_lines}
-use Rattle.proto_model.specs.Faults.{Scope, codes_from, states_from, message_codes, var_codes}
+use Rattle.proto_model.specs.Faults.{Scope, states_from, message_codes, var_codes, claim_codes}
 use Rattle.proto_model.specs.Faults.{start_codes, guard_codes, scope_of, process_codes, item_codes}
 use Rattle.proto_model.specs.declared.numbered.Side.TheVariants as side
 use Rattle.proto_model.specs.declared.protocol.Carry.{Carry}
@@ -24,6 +29,8 @@ use Rattle.proto_model.specs.declared.protocol.Initial.TheVariants as first
 use Rattle.proto_model.specs.declared.protocol.Var.{Var}
 use Rattle.proto_model.specs.declared.protocol.State.{State}
 use Rattle.proto_model.specs.declared.protocol.Process.{Process}
+use Rattle.proto_model.specs.declared.protocol.Claim.{Claim}
+use Rattle.proto_model.specs.declared.protocol.Claim.TheVariants as claim
 use Rattle.proto_model.specs.declared.protocol.Protocol.{Protocol}
 use Rattle.proto_model.specs.declared.guard.Term.{Term}
 use Rattle.proto_model.specs.declared.guard.Expr.{Expr}
@@ -200,14 +207,24 @@ marks-guard g =
       marks-assigns g.assigns,
     ) refl
 
--- ---- and how many items there are
+marks-names : (names : List Text) → marks (map part names) ≡ 0
+marks-names [] = refl
+marks-names (name ∷ names) = marks-names names
 
-length-codes_from : {A : Type 0} (codes_at : ℕ → A → List ℕ) (n : ℕ) (xs : List A)
-    → length (codes_from codes_at n xs) ≡ length xs
-length-codes_from codes_at n [] = refl
-length-codes_from codes_at n (x ∷ xs) =
-    let more = length-codes_from codes_at (n + 1) xs in
-    omega arith
+marks-claim : (c : Claim) → marks (claim_tokens c) ≡ 1
+marks-claim (claim.AtMost most states) =
+    rw (marks-append (map part states) _, marks-names states) refl
+marks-claim (claim.Apart x y) = refl
+
+marks-version : (version : ℕ) → marks (version_tokens version) ≡ 0
+marks-version version =
+    elim (cases_Bool (eqb version 1)) [ inl so ↦ rw so refl | inr so ↦ rw so refl ]
+
+marks-header : (name : Text) (version : ℕ) → marks (header_tokens name version) ≡ 1
+marks-header name version =
+    rw (marks-append (version_tokens version) _, marks-version version) refl
+
+-- ---- and how many items there are
 
 states-marked : (s : Scope) (n : ℕ) (states : List State)
     → marks (flat_map state_tokens states) ≡ length (states_from s n states)
@@ -219,8 +236,8 @@ states-marked s n (state ∷ states) =
     let three = marks-each guard_tokens marks-guard state.guards in
     let four = states-marked s (n + 1) states in
     let five =
-    length-append (codes_from (guard_codes s) 0 state.guards) (states_from s (n + 1) states) in
-    let six = length-codes_from (guard_codes s) 0 state.guards in
+    length-append (map_from (guard_codes s) 0 state.guards) (states_from s (n + 1) states) in
+    let six = length-map_from (guard_codes s) 0 state.guards in
     omega arith
 
 process-marked : (s : Scope) (p : Process) → s.vars ≡ p.vars → s.states ≡ p.states
@@ -237,34 +254,40 @@ process-marked s p same_vars same_states =
     states-marked s 0 p.states
     ∙ ap (λ (xs : List State). length (states_from s 0 xs)) (sym same_states) in
     let five =
-    length-append (codes_from (var_codes s.vars) 0 s.vars)
+    length-append (map_from (var_codes s.vars) 0 s.vars)
     (start_codes s.states p.start ∷ states_from s 0 s.states) in
-    let six : length (codes_from (var_codes s.vars) 0 s.vars) ≡ length p.vars =
-    length-codes_from (var_codes s.vars) 0 s.vars ∙ ap length same_vars in
+    let six : length (map_from (var_codes s.vars) 0 s.vars) ≡ length p.vars =
+    length-map_from (var_codes s.vars) 0 s.vars ∙ ap length same_vars in
     omega arith
 
 -- the first tokens of items are as many as the items
 pub items-marked : (p : Protocol) → marks (tokens_of p) ≡ length (item_codes p)
 items-marked p =
     let messages = flat_map message_tokens p.messages in
+    let claims = flat_map claim_tokens p.claims in
     let home = scope_of side.Home p.messages p.home in
     let remote = scope_of side.Remote p.messages p.remote in
-    let rest =
-    item (codes "home")
-    ∷ (process_tokens p.home ++ item (codes "remote") ∷ process_tokens p.remote) in
-    let one = marks-append messages rest in
+    let remote_tokens = process_tokens p.remote ++ claims in
+    let home_tokens = process_tokens p.home ++ item (codes "remote") ∷ remote_tokens in
+    let body = messages ++ item (codes "home") ∷ home_tokens in
+    let header = marks-append (header_tokens p.name p.version) body in
+    let first = marks-header p.name p.version in
+    let one = marks-append messages (item (codes "home") ∷ home_tokens) in
     let two = marks-each message_tokens marks-message p.messages in
-    let three =
-    marks-append (process_tokens p.home) (item (codes "remote") ∷ process_tokens p.remote) in
-    let four = process-marked home p.home refl refl in
-    let five = process-marked remote p.remote refl refl in
-    let six =
-    length-append (codes_from (message_codes p.messages) 0 p.messages)
-    ([] ∷ (process_codes home p.home.start ++ [] ∷ process_codes remote p.remote.start)) in
-    let seven = length-codes_from (message_codes p.messages) 0 p.messages in
+    let three = marks-append (process_tokens p.home) (item (codes "remote") ∷ remote_tokens) in
+    let four = marks-append (process_tokens p.remote) claims in
+    let five = marks-each claim_tokens marks-claim p.claims in
+    let six = process-marked home p.home refl refl in
+    let seven = process-marked remote p.remote refl refl in
+    let claim_items = map_from (claim_codes p.remote.states) 0 p.claims in
+    let remote_items = process_codes remote p.remote.start ++ claim_items in
+    let home_items = process_codes home p.home.start ++ [] ∷ remote_items in
     let eight =
-    length-append (process_codes home p.home.start)
-    ([] ∷ process_codes remote p.remote.start) in
+    length-append (map_from (message_codes p.messages) 0 p.messages) ([] ∷ home_items) in
+    let nine = length-map_from (message_codes p.messages) 0 p.messages in
+    let ten = length-append (process_codes home p.home.start) ([] ∷ remote_items) in
+    let eleven = length-append (process_codes remote p.remote.start) claim_items in
+    let twelve = length-map_from (claim_codes p.remote.states) 0 p.claims in
     omega arith
 
 -- ---- lines

@@ -1,12 +1,13 @@
 -- Each lexeme of a file stands on the line that the LFs before it give.
-use Rattle.std.proofs.Common.{◌≡◌, ℕ, ◌+◌, false, List, [], ◌∷◌, ◌++◌, refl, sym, ap, subst, ◌∙◌}
-use Rattle.std.proofs.Common.{arith, append_assoc}
+use Rattle.std.proofs.Common.{◌≡◌, ℕ, ◌+◌, false, List, [], ◌∷◌, ◌++◌, Option, Some, None, refl}
+use Rattle.std.proofs.Common.{sym, ap, subst, ◌∙◌, arith, append_assoc}
 use Rattle.proto_model.specs.Tokens.{Text}
-use Rattle.proto_model.specs.Laid.{gap, last_comment, Laid}
+use Rattle.proto_model.specs.Laid.{gap, last_comment, IsLastComment, Laid}
 use Rattle.proto_model.specs.Lexemes.{Lexeme, lexemes}
 use Rattle.proto_model.specs.Spelled.{texts}
 use Rattle.protocol_reader.specs.LexemeLines.{line_feeds, Stands}
-use Rattle.protocol_reader.proofs.CutIsLaid.{line_feeds-append, end_on, LaidOn, LaidOn-Laid, sound}
+use Rattle.protocol_reader.proofs.CutIsLaid.{line_feeds-append, NoLineFeed-line_feeds, end_on}
+use Rattle.protocol_reader.proofs.CutIsLaid.{LaidOn, LaidOn-Laid, sound}
 
 -- the end of a file is laid too
 laid_to_end : (bytes : Text) (found : List Lexeme) (end : ℕ) → Laid bytes (texts found)
@@ -15,11 +16,29 @@ laid_to_end bytes [] end l =
     (l.0, last_comment l.1, l.2, l.4, (λ e. absurd cc), ([], l.1, tt, l.3, refl))
 laid_to_end bytes (t ∷ ts) end l = (l.0, l.1, l.2, l.3, l.4, laid_to_end l.1 ts end l.5)
 
+not_last : (ts : List Lexeme) (end : Lexeme) → ts ++ end ∷ [] ≡ [] → ⊥
+not_last [] end e = cc
+not_last (t ∷ ts) end e = cc
+
 no_tail : (front : List Lexeme) (here : Lexeme) (rest : List Lexeme) → [] ≡ front ++ here ∷ rest → ⊥
 no_tail [] here rest e = cc
 no_tail (l ∷ front) here rest e = cc
 
 -- ---- the end, and the first lexeme
+
+-- a last comment has no LF
+last_free : (last : Option Text) → IsLastComment last → line_feeds (last_comment last) ≡ 0
+last_free None free = refl
+last_free (Some text) free = NoLineFeed-line_feeds text free
+
+end_line : (first end : ℕ) (bytes : Text) → LaidOn first bytes [] end
+    → end ≡ first + line_feeds bytes
+end_line first end bytes l =
+    let whole = ap line_feeds l.4 in
+    let sum = line_feeds-append (gap l.0) (last_comment l.1) in
+    let none = last_free l.1 l.3 in
+    let here = l.5 in
+    omega arith
 
 end_stands : (first : ℕ) (bytes : Text) (end : ℕ) → LaidOn first bytes [] end
     → Stands first bytes [] (end_on end) []
@@ -30,6 +49,7 @@ end_stands first bytes end l = record {
   are_before = (l.0, l.2, refl);
   are_behind = ([], l.1, tt, l.3, refl);
   line = l.5;
+  last = λ e. end_line first end bytes l;
 }
 
 first_stands : (first : ℕ) (bytes : Text) (t : Lexeme) (ts : List Lexeme) (end : ℕ)
@@ -42,6 +62,7 @@ first_stands first bytes t ts end l = record {
   are_before = (l.0, l.2, refl);
   are_behind = laid_to_end l.1 ts end (LaidOn-Laid t.line l.1 ts end l.5);
   line = l.6;
+  last = λ e. absurd (not_last ts (end_on end) e);
 }
 
 -- ---- behind a further lexeme
@@ -74,6 +95,9 @@ further first bytes t ts front end here rest l s = record {
   are_before = (l.0, s.before, l.2, refl, s.are_before);
   are_behind = s.are_behind;
   line = further_line first here.line t.line (gap l.0) t.text s.before s.line l.6 l.7;
+  last = λ e.
+      further_line first here.line t.line (gap l.0) t.text l.1 (s.last e) l.6 l.7
+      ∙ ap (λ (x : Text). first + line_feeds x) (sym l.3);
 }
 
 -- ---- each lexeme

@@ -20,6 +20,8 @@ pub mod Separated
 pub mod DeclarationRules
 pub mod GuardRules
 pub mod ProcessRules
+pub mod ClaimRules
+pub mod ProtocolRule
 pub mod Shorter
 pub mod File
 pub mod OneFaultLine

@@ -1,6 +1,6 @@
 -- A number and its text: the text that is read as a number is its decimal text, and no name.
-use Rattle.std.proofs.Common.{◌≡◌, ◌≢◌, ℕ, ◌^◌, ◌<◌, true, false, ◌&&◌, ◌||◌, eqb, leb, [], ◌∷◌}
-use Rattle.std.proofs.Common.{Option, Some, None, Ok, Err, length, refl, sym, ap, subst, ◌∙◌, inl}
+use Rattle.std.proofs.Common.{◌≡◌, ◌≢◌, ℕ, ◌^◌, ◌<◌, true, false, ◌||◌, eqb, leb, [], ◌∷◌}
+use Rattle.std.proofs.Common.{Option, Some, None, Ok, Err, length, refl, sym, ap, ◌∙◌, inl}
 use Rattle.std.proofs.Common.{inr, arith}
 use Rattle.std.specs.Prelude.{◌⊎◌, is_some}
 use Rattle.std.specs.Char.{is_ascii_digit}
@@ -12,9 +12,8 @@ use Rattle.std.proofs.lemmas.Fmt.{digits_decimal, decimal_nonempty}
 use Rattle.std.proofs.lemmas.Str.Parse.{IsNumeralModel, numerals_by_value, tells_all_ascii_digits}
 use Rattle.rv_base.proofs.DecimalText.{number_of-Some, number_of-decimal}
 use Rattle.proto_model.specs.Tokens.{Text, is_letter, is_digit, is_word, begins_name, AllWord, part}
-use Rattle.protocol_reader.specs.Reading.{At, text_at, line_at, after, taken, number_in, is_number}
+use Rattle.protocol_reader.specs.Reading.{At, text_at, line_at, after, number_in, is_number}
 use Rattle.protocol_reader.specs.Reading.{number}
-use Rattle.protocol_reader.specs.Reading.{is_name}
 use Rattle.protocol_reader.proofs.LexemeTexts.{IsLexeme}
 
 -- ---- the number of a text, and the text of a number

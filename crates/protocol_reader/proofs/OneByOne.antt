@@ -1,27 +1,27 @@
--- Any number of things: while one of the words comes next, one more is read, and else none.
-use Rattle.std.proofs.Common.{◌≡◌, ℕ, suc, ◌+◌, ◌-◌, ◌<◌, true, false, List, [], ◌∷◌, ◌++◌, length}
-use Rattle.std.proofs.Common.{Ok, Err, refl, sym, ap, ◌∙◌, arith, append_assoc, append-nil}
+-- Any number of things: while a further one comes, it is read, and else none.
+use Rattle.std.proofs.Common.{◌≡◌, ℕ, suc, ◌+◌, ◌-◌, ◌<◌, Bool, true, false, List, [], ◌∷◌, ◌++◌}
+use Rattle.std.proofs.Common.{length, Ok, Err, refl, sym, ap, ◌∙◌, arith, append_assoc, append-nil}
 use Rattle.proto_model.specs.Tokens.{Text}
 use Rattle.protocol_reader.specs.declared.error.ReadError.{ReadError}
 use Rattle.protocol_reader.specs.declared.error.ReadError.TheVariants.{TooLong, Syntax, NoMemory}
 use Rattle.protocol_reader.specs.Reads.{Fails}
 use Rattle.protocol_reader.specs.Reading.{At, Outcome, Reader, and_then, pure, mapped, text_at}
-use Rattle.protocol_reader.specs.Reading.{is_among, many, many_at}
+use Rattle.protocol_reader.specs.Reading.{many, many_at}
 
 -- what is read behind one thing is put behind it
 abbrev onto : {A : Type 0} → Outcome A → Reader (List A) → Outcome (List A)
 onto {A = A} o q =
     and_then {A = A × List A} (and_then o (λ x. mapped (λ xs. (x, xs)) q)) (λ y. pure (y.0 ∷ y.1))
 
-many-more : {A : Type 0} (words : List Text) (p : Reader A) (n : ℕ) (at : At)
-    → is_among words (text_at at) ≡ true → many words p (suc n) at ≡ onto (p at) (many words p n)
+many-more : {A : Type 0} (comes : Text → Bool) (p : Reader A) (n : ℕ) (at : At)
+    → comes (text_at at) ≡ true → many comes p (suc n) at ≡ onto (p at) (many comes p n)
 unfolding many
-many-more words p n at seen = rw seen refl
+many-more comes p n at seen = rw seen refl
 
-many-none : {A : Type 0} (words : List Text) (p : Reader A) (n : ℕ) (at : At)
-    → is_among words (text_at at) ≡ false → many words p (suc n) at ≡ Ok ([], at)
+many-none : {A : Type 0} (comes : Text → Bool) (p : Reader A) (n : ℕ) (at : At)
+    → comes (text_at at) ≡ false → many comes p (suc n) at ≡ Ok ([], at)
 unfolding many
-many-none words p n at none = rw none refl
+many-none comes p n at none = rw none refl
 
 -- ---- behind the items so far
 
@@ -31,16 +31,16 @@ behind_items items o = and_then o (λ more. pure (items ++ more))
 
 -- What is read from here on, behind the items so far, is this. The bound on how many follow is
 -- above the number of lexemes, and so is never met.
-pub record Goes {A : Type 0} (words : List Text) (p : Reader A) (items : List A) (at : At)
+pub record Goes {A : Type 0} (comes : Text → Bool) (p : Reader A) (items : List A) (at : At)
     (all : Outcome (List A)) : Type 0 where
   pub bound : ℕ
   pub enough : length at.lexemes < bound
-  pub told : behind_items items (many words p bound at) ≡ all
+  pub told : behind_items items (many comes p bound at) ≡ all
 
-pub goes_first : {A : Type 0} (words : List Text) (p : Reader A) (items : List A) (at : At)
-    → Goes words p items at (behind_items items (many_at words p at))
+pub goes_first : {A : Type 0} (comes : Text → Bool) (p : Reader A) (items : List A) (at : At)
+    → Goes comes p items at (behind_items items (many_at comes p at))
 unfolding many_at
-goes_first words p items at =
+goes_first comes p items at =
     record { bound = length at.lexemes + 1; enough = omega arith; told = refl }
 
 -- a bound that is enough allows for one more
@@ -53,52 +53,52 @@ regrouped items x at (Ok y) = ap (λ xs. Ok (xs, y.1)) (sym (append_assoc items 
 regrouped items x at (Err n) = refl
 
 -- one more is read
-pub goes_on : {A : Type 0} (words : List Text) (p : Reader A) (items : List A) (x : A) (at new : At)
-    (all : Outcome (List A)) → Goes words p items at all
-    → is_among words (text_at at) ≡ true → p at ≡ Ok (x, new)
-    → length new.lexemes < length at.lexemes → Goes words p (items ++ x ∷ []) new all
-goes_on {A = A} words p items x at new all goes seen read less =
+pub goes_on : {A : Type 0} (comes : Text → Bool) (p : Reader A) (items : List A) (x : A)
+    (at new : At) (all : Outcome (List A)) → Goes comes p items at all
+    → comes (text_at at) ≡ true → p at ≡ Ok (x, new)
+    → length new.lexemes < length at.lexemes → Goes comes p (items ++ x ∷ []) new all
+goes_on {A = A} comes p items x at new all goes seen read less =
     let enough = goes.enough in
     let n = goes.bound - 1 in
     record {
       bound = n;
       enough = omega arith;
-      told = sym (regrouped items x at (many words p n new))
-          ∙ ap (λ (o : Outcome A). behind_items items (onto o (many words p n))) (sym read)
-          ∙ ap (behind_items items) (sym (many-more words p n at seen))
-          ∙ ap (λ (m : ℕ). behind_items items (many words p m at))
+      told = sym (regrouped items x at (many comes p n new))
+          ∙ ap (λ (o : Outcome A). behind_items items (onto o (many comes p n))) (sym read)
+          ∙ ap (behind_items items) (sym (many-more comes p n at seen))
+          ∙ ap (λ (m : ℕ). behind_items items (many comes p m at))
           (sym (one_more goes.bound (length at.lexemes) enough))
           ∙ goes.told;
     }
 
-refused : {A : Type 0} (words : List Text) (p : Reader A) (items : List A) (line : ℕ) (at : At)
-    (all : Outcome (List A)) → Goes words p items at all
-    → is_among words (text_at at) ≡ true → p at ≡ Err line → all ≡ Err line
-refused {A = A} words p items line at all goes seen read =
+refused : {A : Type 0} (comes : Text → Bool) (p : Reader A) (items : List A) (line : ℕ) (at : At)
+    (all : Outcome (List A)) → Goes comes p items at all
+    → comes (text_at at) ≡ true → p at ≡ Err line → all ≡ Err line
+refused {A = A} comes p items line at all goes seen read =
     let n = goes.bound - 1 in
     sym goes.told
-    ∙ ap (λ (m : ℕ). behind_items items (many words p m at))
+    ∙ ap (λ (m : ℕ). behind_items items (many comes p m at))
     (one_more goes.bound (length at.lexemes) goes.enough)
-    ∙ ap (behind_items items) (many-more words p n at seen)
-    ∙ ap (λ (o : Outcome A). behind_items items (onto o (many words p n))) read
+    ∙ ap (behind_items items) (many-more comes p n at seen)
+    ∙ ap (λ (o : Outcome A). behind_items items (onto o (many comes p n))) read
 
 -- one more can't be read
-pub goes_wrong : {A : Type 0} (words : List Text) (p : Reader A) (items : List A) (e : ReadError)
-    (at : At) (all : Outcome (List A)) → Goes words p items at all
-    → is_among words (text_at at) ≡ true → Fails (p at) e → Fails all e
-goes_wrong words p items TooLong at all goes seen fails = fails
-goes_wrong words p items (Syntax line) at all goes seen fails =
-    refused words p items line at all goes seen fails
-goes_wrong words p items NoMemory at all goes seen fails = tt
+pub goes_wrong : {A : Type 0} (comes : Text → Bool) (p : Reader A) (items : List A) (e : ReadError)
+    (at : At) (all : Outcome (List A)) → Goes comes p items at all
+    → comes (text_at at) ≡ true → Fails (p at) e → Fails all e
+goes_wrong comes p items TooLong at all goes seen fails = fails
+goes_wrong comes p items (Syntax line) at all goes seen fails =
+    refused comes p items line at all goes seen fails
+goes_wrong comes p items NoMemory at all goes seen fails = tt
 
 -- no more follow
-pub goes_no_further : {A : Type 0} (words : List Text) (p : Reader A) (items : List A) (at : At)
-    (all : Outcome (List A)) → Goes words p items at all
-    → is_among words (text_at at) ≡ false → all ≡ Ok (items, at)
-goes_no_further {A = A} words p items at all goes none =
+pub goes_no_further : {A : Type 0} (comes : Text → Bool) (p : Reader A) (items : List A) (at : At)
+    (all : Outcome (List A)) → Goes comes p items at all
+    → comes (text_at at) ≡ false → all ≡ Ok (items, at)
+goes_no_further {A = A} comes p items at all goes none =
     let n = goes.bound - 1 in
     sym goes.told
-    ∙ ap (λ (m : ℕ). behind_items items (many words p m at))
+    ∙ ap (λ (m : ℕ). behind_items items (many comes p m at))
     (one_more goes.bound (length at.lexemes) goes.enough)
-    ∙ ap (behind_items items) (many-none words p n at none)
+    ∙ ap (behind_items items) (many-none comes p n at none)
     ∙ ap (λ (xs : List A). Ok (xs, at)) (append-nil items)

@@ -1,8 +1,7 @@
 -- What a rule of the grammar owes: what it reads is spelled so, what is spelled so it reads, and
 -- where it stops the tokens read so far can be completed, but not with the text that comes next.
 use Rattle.std.proofs.Common.{◌≡◌, ℕ, Bool, true, false, cond, ◌&&◌, List, [], ◌∷◌, ◌++◌, Ok, Err}
-use Rattle.std.proofs.Common.{refl, sym, ap, subst, ◌∙◌, inl, inr, append_assoc}
-use Rattle.std.specs.Prelude.{◌⊎◌}
+use Rattle.std.proofs.Common.{refl, sym, ap, subst, ◌∙◌, append_assoc}
 use Rattle.std.proofs.lemmas.Bool.{and_parts}
 use Rattle.proto_model.specs.Tokens.{Text, Token}
 use Rattle.protocol_reader.specs.Reading.{At, Outcome, Reader, and_then, both, text_at, line_at}

@@ -40,12 +40,12 @@ all_of b e = rw e refl
 -- the word between two things stops the one before it
 pub between : {A : Type 0} {tokens : A → List Token} {P : A → Type 0} {s : A → Text → Bool}
     (w : Text) → bytes_eq w w ≡ true → ((a : A) → s a w ≡ true)
-    → Begins (w ∷ []) (led_by w tokens) P s
+    → Begins (is_among (w ∷ [])) (led_by w tokens) P s
 between {tokens = tokens} {s = s} w same stops = record {
   first = λ a. part w;
   rest = λ a. tokens a;
   parts = λ a ok. refl;
-  is_word = λ a ok. one_of w same;
+  first_comes = λ a ok. one_of w same;
   stops = λ a t ok e. among_all (w ∷ []) (s a) (all_of (s a w) (stops a)) t e;
 }
 
@@ -57,7 +57,7 @@ abbrev pub separated_stops : {A : Type 0} → Text → Text → (A → List Toke
     → List A → Text → Bool
 separated_stops o w tokens s [] t = not (bytes_eq t o)
 separated_stops o w tokens s (a ∷ more) t =
-    both_stops s (flat_map (led_by w tokens)) (many_stops (w ∷ []) s) (a, more) t
+    both_stops s (flat_map (led_by w tokens)) (many_stops (is_among (w ∷ [])) s) (a, more) t
 
 abbrev list_parts : {A : Type 0} → List A → (A × List A) ⊎ Unit {0}
 list_parts [] = inr tt
@@ -66,13 +66,13 @@ list_parts (a ∷ more) = inl (a, more)
 pub separated_rule : {A : Type 0} {p q : Reader A} {tokens : A → List Token} {P : A → Type 0}
     {s : A → Text → Bool} (o w : Text) → is_filled o ≡ true → bytes_eq w w ≡ true
     → IsRule p tokens P s → IsRule q (led_by w tokens) P s → ((a : A) → s a w ≡ true)
-    → IsRule (mapped list_of (choice (part o) (both p (many_at (w ∷ []) q)) nothing))
+    → IsRule (mapped list_of (choice (part o) (both p (many_at (is_among (w ∷ [])) q)) nothing))
     (separated_tokens o w tokens) (AllByRecursion P) (separated_stops o w tokens s)
 separated_rule {tokens = tokens} {P = P} {s = s} o w some same one other stops =
-    let begins : Begins (w ∷ []) (led_by w tokens) P s = between w same stops in
+    let begins : Begins (is_among (w ∷ [])) (led_by w tokens) P s = between w same stops in
     mapped_rule
     (choice_rule (part o) (filled o some)
-    (both_rule one (many_rule (w ∷ []) other begins)
+    (both_rule one (many_rule (is_among (w ∷ [])) other begins)
     (follows_among (w ∷ []) (first_many (w ∷ []) begins) (λ a ok. all_of (s a w) (stops a))))
     nothing_rule (differs_nothing (part o)))
     list_of list_parts

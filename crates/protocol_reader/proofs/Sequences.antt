@@ -1,6 +1,6 @@
 -- Rules put together so that what stops the whole is plain to see.
-use Rattle.std.proofs.Common.{◌≡◌, ◌≢◌, ℕ, Bool, true, false, cond, ◌&&◌, List, [], ◌∷◌, ◌++◌, refl}
-use Rattle.std.proofs.Common.{sym, ap, ◌∙◌, inl, inr}
+use Rattle.std.proofs.Common.{◌≡◌, ◌≢◌, ℕ, Bool, true, false, not, cond, ◌&&◌, List, [], ◌∷◌}
+use Rattle.std.proofs.Common.{◌++◌, refl, sym, ap, ◌∙◌, inl, inr}
 use Rattle.std.specs.Prelude.{◌⊎◌, is_some}
 use Rattle.std.specs.List.{list_all, flat_map, AllByRecursion}
 use Rattle.std.specs.Str.{bytes_eq}
@@ -12,10 +12,10 @@ use Rattle.protocol_reader.specs.Reading.{Reader, both, token, is_among, is_name
 use Rattle.protocol_reader.proofs.Tokens.{name_is}
 use Rattle.protocol_reader.proofs.Numbers.{number_in-decimal, word_no_number}
 use Rattle.protocol_reader.proofs.Rule.{IsRule, restop, both_rule, both_tokens, BothOk, Follows}
-use Rattle.protocol_reader.proofs.Rule.{is_none}
+use Rattle.protocol_reader.proofs.Rule.{is_none, and_both}
 use Rattle.protocol_reader.proofs.Choices.{free, Anything, no_tokens, the_token, token_rule}
 use Rattle.protocol_reader.proofs.Choices.{choice_tokens, ChoiceOk, Differs}
-use Rattle.protocol_reader.proofs.Repeated.{Begins}
+use Rattle.protocol_reader.proofs.Repeated.{Begins, many_stops, last_all}
 use Rattle.protocol_reader.proofs.Words.{name_tokens, number_tokens, either_tokens, EitherOk}
 
 -- ---- texts
@@ -72,7 +72,7 @@ first_token v words Q rest e =
     }
 
 first_of_many : {A : Type 0} (words : List Text) (tokens : A → List Token) (P : A → Type 0)
-    (s : A → Text → Bool) → Begins words tokens P s
+    (s : A → Text → Bool) → Begins (is_among words) tokens P s
     → (xs : List A) (t : Token) (ts : List Token) → AllByRecursion P xs
     → flat_map tokens xs ≡ t ∷ ts → is_among words t.text ≡ true
 first_of_many words tokens P s begins [] t ts ok e = absurd cc
@@ -80,14 +80,19 @@ first_of_many words tokens P s begins (x ∷ xs) t ts ok e =
     let first : begins.first x ∷ (begins.rest x ++ flat_map tokens xs) ≡ t ∷ ts =
     ap (λ (us : List Token). us ++ flat_map tokens xs) (sym (begins.parts x ok.0)) ∙ e in
     ap (λ (u : Token). is_among words u.text) (sym (same_first (begins.first x) _ t ts first))
-    ∙ begins.is_word x ok.0
+    ∙ begins.first_comes x ok.0
 
 -- any number of things begin with one of their words
 pub first_many : {A : Type 0} {tokens : A → List Token} {P : A → Type 0} {s : A → Text → Bool}
-    (words : List Text) → Begins words tokens P s
+    (words : List Text) → Begins (is_among words) tokens P s
     → FirstAmong words (AllByRecursion P) (flat_map tokens)
 first_many {tokens = tokens} {P = P} {s = s} words begins =
     record { first = first_of_many words tokens P s begins }
+
+-- things that any text stops stop before a text with which none comes
+pub many_stop : {A : Type 0} (comes : Text → Bool) (t : Text) → not (comes t) ≡ true
+    → (xs : List A) → many_stops comes free xs t ≡ true
+many_stop comes t e xs = and_both _ _ e (last_all free t (λ x. refl) xs)
 
 -- ---- sequences
 

@@ -1,19 +1,21 @@
 -- Each token of a protocol that a file can say is a lexeme.
-use Rattle.std.proofs.Common.{Bool, true, false, List, [], ◌∷◌, ◌++◌, Option, Some, None, refl}
-use Rattle.std.proofs.Common.{codes}
+use Rattle.std.proofs.Common.{ℕ, Bool, true, false, List, [], ◌∷◌, ◌++◌, map, Option, Some, None}
+use Rattle.std.proofs.Common.{refl, sym, subst, inl, inr, arith, codes}
 use Rattle.std.specs.List.{flat_map, AllByRecursion}
-use Rattle.proto_model.specs.Tokens.{Text, is_word, is_space, Token, item, part, spellings}
+use Rattle.proto_model.specs.Tokens.{Text, is_word, is_space, IsName, Token, item, part, spellings}
 use Rattle.proto_model.specs.Grammar.{semicolon, closing, direction_token, carry_tokens}
 use Rattle.proto_model.specs.Grammar.{message_tokens, kind_tokens, initial_token, var_tokens}
 use Rattle.proto_model.specs.Grammar.{term_token, expr_tokens, rel_token, atom_tokens, conds_tokens}
 use Rattle.proto_model.specs.Grammar.{assign_tokens, assigns_tokens, partner_tokens, bound_tokens}
 use Rattle.proto_model.specs.Grammar.{value_tokens, action_tokens, guard_tokens, state_tokens}
-use Rattle.proto_model.specs.Grammar.{process_tokens, tokens_of}
+use Rattle.proto_model.specs.Grammar.{process_tokens, version_tokens, header_tokens, claim_tokens}
+use Rattle.proto_model.specs.Grammar.{tokens_of}
 use Rattle.proto_model.specs.Sayable.{IsSayableCarry, IsSayableMessage, IsSayableKind}
 use Rattle.proto_model.specs.Sayable.{IsSayableInitial, IsSayableVar, IsSayableTerm, IsSayableExpr}
 use Rattle.proto_model.specs.Sayable.{IsSayableAtom, IsSayableAssign, IsSayablePartner}
 use Rattle.proto_model.specs.Sayable.{IsSayableBound, IsSayableValue, IsSayableAction}
-use Rattle.proto_model.specs.Sayable.{IsSayableGuard, IsSayableState, IsSayableProcess, IsSayable}
+use Rattle.proto_model.specs.Sayable.{IsSayableGuard, IsSayableState, IsSayableProcess, AreNames}
+use Rattle.proto_model.specs.Sayable.{IsSayableClaim, IsSayableVersion, IsSayable}
 use Rattle.proto_model.specs.declared.protocol.Carry.{Carry}
 use Rattle.proto_model.specs.declared.protocol.Carry.TheVariants as carry
 use Rattle.proto_model.specs.declared.protocol.Message.{Message}
@@ -24,6 +26,8 @@ use Rattle.proto_model.specs.declared.protocol.Initial.TheVariants as first
 use Rattle.proto_model.specs.declared.protocol.Var.{Var}
 use Rattle.proto_model.specs.declared.protocol.State.{State}
 use Rattle.proto_model.specs.declared.protocol.Process.{Process}
+use Rattle.proto_model.specs.declared.protocol.Claim.{Claim}
+use Rattle.proto_model.specs.declared.protocol.Claim.TheVariants as claim
 use Rattle.proto_model.specs.declared.protocol.Protocol.{Protocol}
 use Rattle.proto_model.specs.declared.guard.Term.{Term}
 use Rattle.proto_model.specs.declared.guard.Term.TheVariants as term
@@ -225,7 +229,7 @@ guard_lexemes g ok =
     AreLexemes-append (conds_tokens g.conds) _ (conds_lexemes g.conds ok.conds) from_assigns in
     AreLexemes-append (action_tokens g.kind) _ (action_lexemes g.kind ok.kind) from_conds
 
--- ---- states, processes, the protocol
+-- ---- states, processes
 
 state_lexemes : (s : State) → IsSayableState s → AreLexemes (state_tokens s)
 unfolding is_word is_space
@@ -254,21 +258,72 @@ process_lexemes p ok =
     let vars = AreLexemes-flat_map var_tokens IsSayableVar var_lexemes p.vars ok.vars in
     (lexeme_is (codes "{") refl, AreLexemes-append (flat_map var_tokens p.vars) _ vars start)
 
+-- ---- claims, the protocol
+
+names_lexemes : (names : List Text) → AllByRecursion IsName names → AreLexemes (map part names)
+names_lexemes [] ok = tt
+names_lexemes (name ∷ names) ok = (name_lexeme name ok.0, names_lexemes names ok.1)
+
+some_names : (names : List Text) → AreNames names → AllByRecursion IsName names
+some_names [] ok = absurd ok
+some_names (name ∷ names) ok = ok
+
+claim_lexemes : (c : Claim) → IsSayableClaim c → AreLexemes (claim_tokens c)
+unfolding is_word is_space
+claim_lexemes (claim.AtMost most states) ok =
+    let named =
+    AreLexemes-append (map part states) (semicolon ∷ [])
+    (names_lexemes states (some_names states ok.1)) semicolon_lexeme in (
+      lexeme_is (codes "claim") refl,
+      (
+        lexeme_is (codes "atmost") refl,
+        (number_lexeme most ok.0, (lexeme_is (codes "in") refl, named)),
+      ),
+    )
+claim_lexemes (claim.Apart x y) ok =
+    let with_other : AreLexemes (part (codes "with") ∷ part y ∷ semicolon ∷ []) =
+    (lexeme_is (codes "with") refl, (name_lexeme y ok.1, semicolon_lexeme)) in (
+      lexeme_is (codes "claim") refl,
+      (lexeme_is (codes "not") refl, (name_lexeme x ok.0, with_other)),
+    )
+
+version_lexemes : (version : ℕ) (claims : List Claim) → IsSayableVersion version claims
+    → AreLexemes (version_tokens version)
+unfolding is_word is_space
+version_lexemes version claims (inl one) =
+    subst (λ (v : ℕ). AreLexemes (version_tokens v)) (sym one.0) tt
+version_lexemes version claims (inr two) =
+    let second : AreLexemes (version_tokens 2) =
+    (lexeme_is (codes "version") refl, (number_lexeme 2 (omega arith), tt)) in
+    subst (λ (v : ℕ). AreLexemes (version_tokens v)) (sym two) second
+
+header_lexemes : (p : Protocol) → IsSayable p → AreLexemes (header_tokens p.name p.version)
+unfolding is_word is_space
+header_lexemes p ok =
+    let version =
+    AreLexemes-append (version_tokens p.version) (semicolon ∷ [])
+    (version_lexemes p.version p.claims ok.version) semicolon_lexeme in
+    (lexeme_is (codes "protocol") refl, (name_lexeme p.name ok.name, version))
+
 pub protocol_lexemes : (p : Protocol) → IsSayable p → AllLexemes (spellings (tokens_of p))
 unfolding is_word is_space
 protocol_lexemes p ok =
-    let remote : AreLexemes (item (codes "remote") ∷ process_tokens p.remote) =
-    (lexeme_is (codes "remote") refl, process_lexemes p.remote ok.remote) in
+    let claims = AreLexemes-flat_map claim_tokens IsSayableClaim claim_lexemes p.claims ok.claims in
+    let behind =
+    AreLexemes-append (process_tokens p.remote) (flat_map claim_tokens p.claims)
+    (process_lexemes p.remote ok.remote) claims in
+    let remote : AreLexemes
+    (item (codes "remote") ∷ (process_tokens p.remote ++ flat_map claim_tokens p.claims)) =
+    (lexeme_is (codes "remote") refl, behind) in
     let home : AreLexemes
     (item (codes "home")
-    ∷ (process_tokens p.home ++ item (codes "remote") ∷ process_tokens p.remote)) = (
+    ∷ (process_tokens p.home
+    ++ item (codes "remote") ∷ (process_tokens p.remote ++ flat_map claim_tokens p.claims))) = (
       lexeme_is (codes "home") refl,
       AreLexemes-append (process_tokens p.home) _ (process_lexemes p.home ok.home) remote,
     ) in
     let messages =
     AreLexemes-flat_map message_tokens IsSayableMessage message_lexemes p.messages
     ok.messages in
-    let behind = AreLexemes-append (flat_map message_tokens p.messages) _ messages home in (
-      lexeme_is (codes "protocol") refl,
-      (name_lexeme p.name ok.name, (lexeme_is (codes ";") refl, behind)),
-    )
+    let body = AreLexemes-append (flat_map message_tokens p.messages) _ messages home in
+    AreLexemes-append (header_tokens p.name p.version) _ (header_lexemes p ok) body

@@ -19,7 +19,8 @@ AreBefore (text ∷ more) bytes =
 
 -- Where the lexeme `here` of bytes that begin on the line `first` stands, with the lexemes `front`
 -- before it and `rest` behind it: the bytes before it are those lexemes and gaps, the bytes behind
--- it are laid by the others, and its line is `first` plus the LFs before it.
+-- it are laid by the others, and its line is `first` plus the LFs before it. The last lexeme is
+-- that of the end of the file, and its line is `first` plus all LFs.
 pub record Stands
     (first : ℕ) (bytes : Text) (front : List Lexeme) (here : Lexeme)
     (rest : List Lexeme) : Type 0 where
@@ -29,3 +30,4 @@ pub record Stands
   pub are_before : AreBefore (texts front) before
   pub are_behind : Laid behind (texts rest)
   pub line : here.line ≡ first + line_feeds before
+  pub last : rest ≡ [] → here.line ≡ first + line_feeds bytes

@@ -22,6 +22,8 @@ use Rattle.proto_model.specs.declared.protocol.Initial.TheVariants as first
 use Rattle.proto_model.specs.declared.protocol.Var.{Var}
 use Rattle.proto_model.specs.declared.protocol.State.{State}
 use Rattle.proto_model.specs.declared.protocol.Process.{Process}
+use Rattle.proto_model.specs.declared.protocol.Claim.{Claim}
+use Rattle.proto_model.specs.declared.protocol.Claim.TheVariants as claims
 use Rattle.proto_model.specs.declared.protocol.Protocol.{Protocol}
 use Rattle.proto_model.specs.declared.guard.Term.{Term}
 use Rattle.proto_model.specs.declared.guard.Term.TheVariants as term
@@ -139,17 +141,18 @@ token t = λ at. if sees t.text at then Ok (tt, after t at) else Err (line_at at
 abbrev pub choice : {A B : Type 0} → Token → Reader A → Reader B → Reader (A ⊎ B)
 choice t p q = λ at. if sees t.text at then mapped inl p (after t at) else mapped inr q at
 
--- any number of things, as long as one of these words comes next, and at most so many
-unfoldable pub many : {A : Type 0} → List Text → Reader A → ℕ → Reader (List A)
-many words p zero = pure []
-many words p (suc n) = λ at.
-    if is_among words (text_at at) then mapped (λ x. x.0 ∷ x.1) (both p (many words p n)) at
+-- any number of things, as long as the next text is one with which a further thing comes, and at
+-- most so many
+unfoldable pub many : {A : Type 0} → (Text → Bool) → Reader A → ℕ → Reader (List A)
+many comes p zero = pure []
+many comes p (suc n) = λ at.
+    if comes (text_at at) then mapped (λ x. x.0 ∷ x.1) (both p (many comes p n)) at
     else Ok ([], at)
 
--- Any number of things, as long as one of these words comes next. Each thing takes a lexeme at
--- least, so the bound is never met.
-unfoldable pub many_at : {A : Type 0} → List Text → Reader A → Reader (List A)
-many_at words p = λ at. many words p (length at.lexemes + 1) at
+-- Any number of things, as long as the next text is one with which a further thing comes. Each
+-- thing takes a lexeme at least, so the bound is never met.
+unfoldable pub many_at : {A : Type 0} → (Text → Bool) → Reader A → Reader (List A)
+many_at comes p = λ at. many comes p (length at.lexemes + 1) at
 
 -- The next lexeme, with what was made of its text. Where nothing was, reading stops there.
 abbrev pub taken : {A : Type 0} → Option A → Reader A
@@ -335,7 +338,8 @@ list_of (inr _) = []
 unfoldable pub conditions : Reader (List Atom)
 conditions =
     mapped list_of
-    (choice (part (codes "when")) (both atom (many_at (codes "and" ∷ []) and_atom)) nothing)
+    (choice (part (codes "when"))
+    (both atom (many_at (is_among (codes "and" ∷ [])) and_atom)) nothing)
 
 -- the assignment of the parts that were read
 abbrev pub assign_of : Text × (Unit {0} × Expr) → Assign
@@ -353,8 +357,8 @@ comma_assignment = mapped second_of (both (word (codes ",")) assignment)
 unfoldable pub assignments : Reader (List Assign)
 assignments =
     mapped list_of
-    (choice (part (codes "do")) (both assignment (many_at (codes "," ∷ []) comma_assignment))
-    nothing)
+    (choice (part (codes "do"))
+    (both assignment (many_at (is_among (codes "," ∷ [])) comma_assignment)) nothing)
 
 -- any x, where s is read too any x in s
 abbrev pub any_of : Text × (Text ⊎ Unit {0}) → Partner
@@ -449,7 +453,7 @@ unfoldable pub state : Reader State
 state =
     mapped state_of
     (both (token (item (codes "state"))) (both name
-    (both (token opening) (both (many_at guard_words guard) (token closing)))))
+    (both (token opening) (both (many_at (is_among guard_words) guard) (token closing)))))
 
 -- the process of the parts that were read
 abbrev pub process_of :
@@ -461,25 +465,86 @@ process_of (_, (vars, (_, (start, (_, (states, _)))))) =
 unfoldable pub process : Reader Process
 process =
     mapped process_of
-    (both (token opening) (both (many_at (codes "var" ∷ []) variable)
+    (both (token opening) (both (many_at (is_among (codes "var" ∷ [])) variable)
     (both (token (item (codes "start"))) (both name (both (token semicolon)
-    (both (many_at (codes "state" ∷ []) state) (token closing)))))))
+    (both (many_at (is_among (codes "state" ∷ [])) state) (token closing)))))))
 
--- the protocol of the parts that were read
-abbrev pub protocol_of :
-    Unit {0} × (Text × (Unit {0} × (List Message × (Unit {0} × (Process × (Unit {0} × Process))))))
-    → Protocol
-protocol_of (_, (name, (_, (messages, (_, (home, (_, remote))))))) =
-    record { name = name; messages = messages; home = home; remote = remote }
+-- the first and the others
+abbrev pub in_front_of : {A : Type 0} → A × List A → List A
+in_front_of (a, more) = a ∷ more
 
--- 'protocol' NAME ';' message* 'home' process 'remote' process
+-- NAME NAME*
+unfoldable pub names : Reader (List Text)
+names = mapped in_front_of (both name (many_at is_name name))
+
+-- the parts of a claim, by the word that was read: the number and the names behind `atmost`, or the
+-- two names behind `not`
+abbrev pub ClaimParts : Type 0
+ClaimParts =
+    (ℕ × (Unit {0} × (List Text × Unit {0})))
+    ⊎ (Unit {0} × (Text × (Unit {0} × (Text × Unit {0}))))
+
+-- the claim of the parts that were read
+abbrev pub claim_of : Unit {0} × ClaimParts → Claim
+claim_of (_, inl (most, (_, (states, _)))) = claims.AtMost most states
+claim_of (_, inr (_, (x, (_, (y, _))))) = claims.Apart x y
+
+-- 'claim' ( 'atmost' NUMBER 'in' names ';' | 'not' NAME 'with' NAME ';' )
+unfoldable pub claim : Reader Claim
+claim =
+    mapped claim_of
+    (both (token (item (codes "claim")))
+    (choice (part (codes "atmost"))
+    (both number (both (word (codes "in")) (both names (token semicolon))))
+    (both (word (codes "not"))
+    (both name (both (word (codes "with")) (both name (token semicolon)))))))
+
+-- what a protocol says in each version: its messages, its home and its remote
+abbrev pub Body : Type 0
+Body = List Message × Process × Process
+
+-- the body of the parts that were read
+abbrev pub body_of : List Message × (Unit {0} × (Process × (Unit {0} × Process))) → Body
+body_of (messages, (_, (home, (_, remote)))) = (messages, home, remote)
+
+-- message* 'home' process 'remote' process
+unfoldable pub body : Reader Body
+body =
+    mapped body_of
+    (both (many_at (is_among (codes "message" ∷ [])) message)
+    (both (token (item (codes "home"))) (both process
+    (both (token (item (codes "remote"))) process))))
+
+-- What is read behind the name of a protocol: where the version stands there, a body and claims,
+-- else a body alone.
+abbrev pub Versions : Type 0
+Versions = (Unit {0} × (Unit {0} × (Body × List Claim))) ⊎ (Unit {0} × Body)
+
+-- the protocol of this name and version, of the body that was read, with these claims
+abbrev pub with_claims : Text → ℕ → Body → List Claim → Protocol
+with_claims name version (messages, home, remote) claims = record {
+  name = name;
+  version = version;
+  messages = messages;
+  home = home;
+  remote = remote;
+  claims = claims;
+}
+
+-- the protocol of the parts that were read: of version 2, or of version 1, which has no claims
+abbrev pub protocol_of : Unit {0} × (Text × Versions) → Protocol
+protocol_of (_, (name, inl (_, (_, (body, claims))))) = with_claims name 2 body claims
+protocol_of (_, (name, inr (_, body))) = with_claims name 1 body []
+
+-- 'protocol' NAME ( 'version' '2' ';' body claim* | ';' body )
 unfoldable pub protocol : Reader Protocol
 protocol =
     mapped protocol_of
-    (both (token (item (codes "protocol"))) (both name (both (token semicolon)
-    (both (many_at (codes "message" ∷ []) message)
-    (both (token (item (codes "home"))) (both process
-    (both (token (item (codes "remote"))) process)))))))
+    (both (token (item (codes "protocol"))) (both name
+    (choice (part (codes "version"))
+    (both (word (codes "2")) (both (token semicolon)
+    (both body (many_at (is_among (codes "claim" ∷ [])) claim))))
+    (both (token semicolon) body))))
 
 -- A protocol, and nothing behind it. Where something is, reading stops there.
 unfoldable pub file : Reader Protocol

@@ -10,6 +10,8 @@ Fails outcome TooLong = ⊥
 Fails outcome (Syntax line) = outcome ≡ Err line
 Fails outcome NoMemory = Unit {0}
 
+-- what was read is what the rule reads, and reading stands where the rule then does; a fault is
+-- where the rule stops
 abbrev pub Reads : {A : Type 0} → Outcome A → Result A ReadError → At → Type 0
 Reads outcome (Ok a) new = outcome ≡ Ok (a, new)
 Reads outcome (Err e) new = Fails outcome e

@@ -48,21 +48,21 @@ fn begins_gap(bytes: &[u8]) -> bool
     }
 }
 
-/// The number of letters, digits and `_` in front.
+// The number of letters, digits and `_` in front.
 fn word_len(bytes: &[u8]) -> usize
     ensures { result ≡ prefix_len tokens.is_word bytes.now }
 {
     bytes.iter().take_while(|byte| is_word(**byte)).count()
 }
 
-/// The number of bytes in front of the first LF, or of all.
+// The number of bytes in front of the first LF, or of all.
 fn comment_len(bytes: &[u8]) -> usize
     ensures { result ≡ prefix_len (λ b. not (b == 10)) bytes.now }
 {
     bytes.iter().take_while(|byte| **byte != b'\n').count()
 }
 
-/// The line behind a byte of this line.
+// The line behind a byte of this line.
 fn line_after(byte: u8, line: u32) -> u32
     requires { line + 1 < 2 ^ 32 }
     ensures { result ≡ lexemes.line_after byte line }
@@ -70,7 +70,7 @@ fn line_after(byte: u8, line: u32) -> u32
     if byte == b'\n' { line + 1 } else { line }
 }
 
-/// The bytes behind the white space byte or the comment in front, and their line.
+// The bytes behind the white space byte or the comment in front, and their line.
 fn after_piece(bytes: &[u8], line: u32) -> (&[u8], u32)
     requires gap { spec.begins_gap bytes.now ≡ true }
     requires lines { line + length bytes.now < 2 ^ 32 }
@@ -86,7 +86,7 @@ fn after_piece(bytes: &[u8], line: u32) -> (&[u8], u32)
     (rest, line_after(bytes[0], line))
 }
 
-/// The bytes behind the gap in front, and their line.
+// The bytes behind the gap in front, and their line.
 fn after_gap(bytes: &[u8], line: u32) -> (&[u8], u32)
     requires { line + length bytes.now < 2 ^ 32 }
     ensures cut { cut false line bytes.now ≡ cut false result.1 result.0.now }

@@ -35,7 +35,7 @@ use std::alloc::Global;
 
 /// A protocol, and the line of each of its items: the header, the messages, the word `home`, the
 /// variables, the start and the states of the home, each state followed by its guards, then the
-/// word `remote` and its parts likewise. Lines count from 1.
+/// word `remote` and its parts likewise, then the claims. Lines count from 1.
 #[derive(Debug, Drop)]
 pub struct Spelled {
     pub protocol: Protocol,

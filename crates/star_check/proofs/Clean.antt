@@ -1,9 +1,10 @@
 -- Where a protocol has no fault, no item has a code, and no test of a code holds.
-use Rattle.std.proofs.Common.{◌≡◌, ℕ, zero, suc, ◌+◌, ◌<◌, ◌≤◌, Bool, true, false, List, [], ◌∷◌, ◌++◌, map, length, refl, arith, Some}
+use Rattle.std.proofs.Common.{◌≡◌, ℕ, zero, suc, ◌+◌, ◌<◌, ◌≤◌, Bool, true, false, List, [], ◌∷◌, ◌++◌, length, refl, arith, Some}
 use Rattle.std.specs.Prelude.{slice_get}
 use Rattle.std.specs.List.{AllByRecursion}
+use Rattle.rv_base.specs.Lists.{map_from}
 use Rattle.rv_base.proofs.Lists.{AllByRecursion-front, AllByRecursion-back}
-use Rattle.proto_model.specs.Faults.{when, codes_from, states_from, state_codes, guard_codes, Scope, faults_from}
+use Rattle.proto_model.specs.Faults.{when, states_from, state_codes, guard_codes, Scope, faults_from}
 use Rattle.proto_model.specs.declared.protocol.State.{State}
 
 abbrev pub IsEmpty : List ℕ → Type 0
@@ -15,7 +16,7 @@ clean n ([] ∷ items) e = (refl, clean (n + 1) items e)
 clean n ((code ∷ more) ∷ items) e = absurd (cc)
 
 -- the codes of the item at a place
-pub codes_at : {A : Type 0} (f : ℕ → A → List ℕ) (n : ℕ) (xs : List A) → AllByRecursion IsEmpty (codes_from f n xs)
+pub codes_at : {A : Type 0} (f : ℕ → A → List ℕ) (n : ℕ) (xs : List A) → AllByRecursion IsEmpty (map_from f n xs)
     → (k : ℕ) (x : A) → slice_get xs k ≡ Some x → f (n + k) x ≡ []
 codes_at f n [] all k x e = absurd (cc)
 codes_at f n (y ∷ xs) all zero x e =
@@ -29,7 +30,7 @@ codes_at f n (y ∷ xs) all (suc k) x e =
 -- the codes of the state at a place, and those of its guards
 pub record CleanState (s : Scope) (place : ℕ) (state : State) : Type 0 where
   pub own : state_codes s.side s.states place state ≡ []
-  pub guards : AllByRecursion IsEmpty (codes_from (guard_codes s) 0 state.guards)
+  pub guards : AllByRecursion IsEmpty (map_from (guard_codes s) 0 state.guards)
 
 pub state_at : (s : Scope) (n : ℕ) (states : List State) → AllByRecursion IsEmpty (states_from s n states)
     → (k : ℕ) (state : State) → slice_get states k ≡ Some state → CleanState s (n + k) state
@@ -39,14 +40,14 @@ state_at s n (first ∷ states) all zero state e =
     let here : n + 0 ≡ n = omega arith in
     let own : CleanState s n first = record {
       own = all.0;
-      guards = AllByRecursion-front IsEmpty (codes_from (guard_codes s) 0 first.guards)
+      guards = AllByRecursion-front IsEmpty (map_from (guard_codes s) 0 first.guards)
           (states_from s (n + 1) states) all.1;
     } in
     rw (here, ← same) own
 state_at s n (first ∷ states) all (suc k) state e =
     let there : n + suc k ≡ n + 1 + k = omega arith in
     rw there (state_at s (n + 1) states
-    (AllByRecursion-back IsEmpty (codes_from (guard_codes s) 0 first.guards)
+    (AllByRecursion-back IsEmpty (map_from (guard_codes s) 0 first.guards)
     (states_from s (n + 1) states) all.1) k state e)
 
 -- a code is not there only where its test fails

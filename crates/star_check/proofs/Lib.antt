@@ -4,10 +4,13 @@ pub mod SameTypes
 pub mod InRange
 pub mod ProperRules
 pub mod ProperBodies
+pub mod StateSets
+pub mod ProperClaims
 pub mod WellFormed
 pub mod OneMore
 pub mod Before
 pub mod Firsts
 pub mod Passing
+pub mod PassingItems
 pub mod SmallNumbers
 pub mod NumberedForm

@@ -1,15 +1,12 @@
 -- Passing over items: what the parts of a list of items say of the whole.
 use Rattle.std.proofs.Common.{◌≡◌, ℕ, suc, ◌+◌, ◌<◌, List, [], ◌∷◌, ◌++◌, length, get_or, drop, refl, sym, ap, ◌∙◌, arith, Some, None, drop-cons, length-append}
 use Rattle.std.specs.Prelude.{Result, Ok, Err}
-use Rattle.proto_model.specs.Faults.{first, faults_from, codes_from, states_from, state_codes, guard_codes, Scope}
+use Rattle.rv_base.specs.Lists.{map_from}
+use Rattle.proto_model.specs.Faults.{first, faults_from, states_from, state_codes, guard_codes, Scope}
 use Rattle.proto_model.specs.declared.protocol.State.{State}
 use Rattle.proto_model.specs.declared.guard.Guard.{Guard}
 use Rattle.star_check.specs.declared.fault.Fault.{Fault}
 use Rattle.star_check.specs.Passes.{Passes}
-
-pub length-codes_from : {A : Type 0} (codes_at : ℕ → A → List ℕ) (n : ℕ) (xs : List A) → length (codes_from codes_at n xs) ≡ length xs
-length-codes_from codes_at n [] = refl
-length-codes_from codes_at n (x ∷ xs) = ap suc (length-codes_from codes_at (n + 1) xs)
 
 -- items without a fault are passed over
 pub first-pass : (n : ℕ) (xs ys : List (List ℕ)) → None ≡ first (faults_from n xs) → first (faults_from n (xs ++ ys)) ≡ first (faults_from (n + length xs) ys)
@@ -66,37 +63,37 @@ module _ (s : Scope) (states : List State) (i n : ℕ) (state : State) (guards :
   -- the states from this place on begin with this one
   here : i < length states → state ≡ get_or states i state → guards ≡ state.guards
       → states_from s i (drop i states)
-      ≡ state_codes s.side s.states i state ∷ (codes_from (guard_codes s) 0 guards ++ states_from s (i + 1) (drop (i + 1) states))
+      ≡ state_codes s.side s.states i state ∷ (map_from (guard_codes s) 0 guards ++ states_from s (i + 1) (drop (i + 1) states))
   here within at own =
       ap (states_from s i) (left_at states i state within at)
-      ∙ ap (λ gs. state_codes s.side s.states i state ∷ (codes_from (guard_codes s) 0 gs ++ states_from s (i + 1) (drop (i + 1) states))) (sym own)
+      ∙ ap (λ gs. state_codes s.side s.states i state ∷ (map_from (guard_codes s) 0 gs ++ states_from s (i + 1) (drop (i + 1) states))) (sym own)
 
   pub passed-state : i < length states → state ≡ get_or states i state → guards ≡ state.guards
-      → None ≡ first (state_codes s.side s.states i state) → None ≡ first (faults_from (n + 1) (codes_from (guard_codes s) 0 guards))
-      → (next : ℕ) → next ≡ n + 1 + length (codes_from (guard_codes s) 0 guards)
+      → None ≡ first (state_codes s.side s.states i state) → None ≡ first (faults_from (n + 1) (map_from (guard_codes s) 0 guards))
+      → (next : ℕ) → next ≡ n + 1 + length (map_from (guard_codes s) 0 guards)
       → first (faults_from n (states_from s i (drop i states))) ≡ first (faults_from next (states_from s (i + 1) (drop (i + 1) states)))
   passed-state within at own clean clean_guards next count =
       ap (λ items. first (faults_from n items)) (here within at own)
-      ∙ pass_own (state_codes s.side s.states i state) n (codes_from (guard_codes s) 0 guards ++ states_from s (i + 1) (drop (i + 1) states)) clean
-      ∙ first-pass (n + 1) (codes_from (guard_codes s) 0 guards) (states_from s (i + 1) (drop (i + 1) states)) clean_guards
+      ∙ pass_own (state_codes s.side s.states i state) n (map_from (guard_codes s) 0 guards ++ states_from s (i + 1) (drop (i + 1) states)) clean
+      ∙ first-pass (n + 1) (map_from (guard_codes s) 0 guards) (states_from s (i + 1) (drop (i + 1) states)) clean_guards
       ∙ ap (λ k. first (faults_from k (states_from s (i + 1) (drop (i + 1) states)))) (sym count)
 
   pub counted-state : i < length states → state ≡ get_or states i state → guards ≡ state.guards
-      → (next : ℕ) → next ≡ n + 1 + length (codes_from (guard_codes s) 0 guards)
+      → (next : ℕ) → next ≡ n + 1 + length (map_from (guard_codes s) 0 guards)
       → next + length (states_from s (i + 1) (drop (i + 1) states)) ≡ n + length (states_from s i (drop i states))
   counted-state within at own next count =
-      let whole : length (states_from s i (drop i states)) ≡ suc (length (codes_from (guard_codes s) 0 guards ++ states_from s (i + 1) (drop (i + 1) states))) =
+      let whole : length (states_from s i (drop i states)) ≡ suc (length (map_from (guard_codes s) 0 guards ++ states_from s (i + 1) (drop (i + 1) states))) =
       ap length (here within at own) in
-      let parts : length (codes_from (guard_codes s) 0 guards ++ states_from s (i + 1) (drop (i + 1) states))
-      ≡ length (codes_from (guard_codes s) 0 guards) + length (states_from s (i + 1) (drop (i + 1) states)) =
-      length-append (codes_from (guard_codes s) 0 guards) (states_from s (i + 1) (drop (i + 1) states)) in
+      let parts : length (map_from (guard_codes s) 0 guards ++ states_from s (i + 1) (drop (i + 1) states))
+      ≡ length (map_from (guard_codes s) 0 guards) + length (states_from s (i + 1) (drop (i + 1) states)) =
+      length-append (map_from (guard_codes s) 0 guards) (states_from s (i + 1) (drop (i + 1) states)) in
       omega arith
 
   pub stopped-state : i < length states → state ≡ get_or states i state → guards ≡ state.guards
       → None ≡ first (state_codes s.side s.states i state)
-      → (f : ℕ × ℕ) → Some f ≡ first (faults_from (n + 1) (codes_from (guard_codes s) 0 guards))
+      → (f : ℕ × ℕ) → Some f ≡ first (faults_from (n + 1) (map_from (guard_codes s) 0 guards))
       → Some f ≡ first (faults_from n (states_from s i (drop i states)))
   stopped-state within at own clean f found =
-      first-stop (n + 1) (codes_from (guard_codes s) 0 guards) (states_from s (i + 1) (drop (i + 1) states)) f found
-      ∙ sym (pass_own (state_codes s.side s.states i state) n (codes_from (guard_codes s) 0 guards ++ states_from s (i + 1) (drop (i + 1) states)) clean)
+      first-stop (n + 1) (map_from (guard_codes s) 0 guards) (states_from s (i + 1) (drop (i + 1) states)) f found
+      ∙ sym (pass_own (state_codes s.side s.states i state) n (map_from (guard_codes s) 0 guards ++ states_from s (i + 1) (drop (i + 1) states)) clean)
       ∙ sym (ap (λ items. first (faults_from n items)) (here within at own))

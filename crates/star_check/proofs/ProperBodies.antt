@@ -5,10 +5,11 @@ use Rattle.std.specs.Prelude.{nat_lt, nat_le, slice_get}
 use Rattle.std.specs.List.{list_any, AllByRecursion}
 use Rattle.std.proofs.lemmas.Bool.{or_parts, not-false}
 use Rattle.std.proofs.lemmas.List.{length-map}
+use Rattle.rv_base.specs.Lists.{map_from}
 use Rattle.rv_base.proofs.Lists.{AllByRecursion-front, AllByRecursion-back, AllByRecursion-map}
 use Rattle.proto_model.specs.Names.{is_declared, state_names, var_names}
 use Rattle.proto_model.specs.Faults.{unknown, wrong_type, active_mixed, bad_number, Scope, scope_of}
-use Rattle.proto_model.specs.Faults.{guard_codes, codes_from, states_from, is_output_action}
+use Rattle.proto_model.specs.Faults.{guard_codes, states_from, is_output_action}
 use Rattle.proto_model.specs.Faults.{is_conditioned_output, is_mixed, declaration_codes, var_codes}
 use Rattle.proto_model.specs.Faults.{start_codes, process_codes, is_bad_bound, is_bad_kind}
 use Rattle.proto_model.specs.Faults.{is_past_bound, is_first_of}
@@ -175,7 +176,7 @@ proper_state s place state clean =
 
 -- the items of a process have no code
 pub record CleanProcess (s : Side) (messages : List Message) (p : Process) : Type 0 where
-  pub vars : AllByRecursion IsEmpty (codes_from (var_codes p.vars) 0 p.vars)
+  pub vars : AllByRecursion IsEmpty (map_from (var_codes p.vars) 0 p.vars)
   pub start : start_codes p.states p.start ≡ []
   pub states : AllByRecursion IsEmpty (states_from (scope_of s messages p) 0 p.states)
 
@@ -184,10 +185,10 @@ pub clean_process : (s : Side) (messages : List Message) (p : Process)
     → CleanProcess s messages p
 clean_process s messages p all =
     let rest =
-    AllByRecursion-back IsEmpty (codes_from (var_codes p.vars) 0 p.vars)
+    AllByRecursion-back IsEmpty (map_from (var_codes p.vars) 0 p.vars)
     (start_codes p.states p.start ∷ states_from (scope_of s messages p) 0 p.states) all in
     record {
-      vars = AllByRecursion-front IsEmpty (codes_from (var_codes p.vars) 0 p.vars)
+      vars = AllByRecursion-front IsEmpty (map_from (var_codes p.vars) 0 p.vars)
           (start_codes p.states p.start ∷ states_from (scope_of s messages p) 0 p.states) all;
       start = rest.0;
       states = rest.1;

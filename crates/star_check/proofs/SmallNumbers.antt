@@ -20,7 +20,7 @@ use Rattle.star_check.proofs.Clean.{CleanState, codes_at, test_fails, last_test_
 use Rattle.star_check.proofs.ProperRules.{guard_clean}
 use Rattle.star_check.proofs.ProperBodies.{CleanProcess, bound, var_at, clean_state_at, few_vars, few_states}
 
-none_of : {A : Type 0} (test : A → Bool) (xs : List A) → ((k : ℕ) (x : A) → slice_get xs k ≡ Some x → test x ≡ false) → list_any test xs ≡ false
+pub none_of : {A : Type 0} (test : A → Bool) (xs : List A) → ((k : ℕ) (x : A) → slice_get xs k ≡ Some x → test x ≡ false) → list_any test xs ≡ false
 none_of test [] fails = refl
 none_of test (x ∷ xs) fails =
     ap (λ b. b || list_any test xs) (fails 0 x refl) ∙ none_of test xs (λ k y e. fails (suc k) y e)

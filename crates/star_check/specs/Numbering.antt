@@ -8,4 +8,5 @@ use Rattle.proto_model.specs.Names.{place_of}
 
 -- the map gives each name the place of its first declaration
 abbrev pub IsNumbering : {S : Type 0} → IndexMap (Bor Text) ℕ S → List Text → Type 0
-IsNumbering places names = (name : Text) → get_by (λ key. bytes_eq name key.now) places ≡ place_of name names
+IsNumbering places names =
+    (name : Text) → get_by (λ key. bytes_eq name key.now) places ≡ place_of name names

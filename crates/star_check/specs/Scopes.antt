@@ -13,7 +13,7 @@ use Rattle.star_check.specs.declared.scope.Scope as code
 abbrev pub scope_seen : code.Scope → Scope
 scope_seen s = record { side = s.side; messages = s.messages.now; vars = s.vars; states = s.states }
 
--- there are few enough names for each place to fit in a byte
+-- there are at most 64 messages, variables and states
 pub record IsSmallScope (s : code.Scope) : Type 0 where
   pub few_messages : length s.messages.now ≤ 64
   pub few_vars : length s.vars ≤ 64
@@ -23,18 +23,20 @@ pub record IsSmallScope (s : code.Scope) : Type 0 where
 abbrev pub process_seen : code.Scope → Process
 process_seen s = record { vars = s.vars; start = s.start.now; states = s.states }
 
--- a first value is a number that no int holds
+-- a first value is a number above 65,535, which no int holds
 abbrev pub is_large_initial : Initial → Bool
 is_large_initial (initial.Number n) = nat_lt 65535 n
 is_large_initial initial.Nowhere = false
 is_large_initial initial.Empty = false
 
 -- the scope is that of this process
-pub record IsScopeOf (s : code.Scope) (side : Side) (messages : List Message) (p : Process) : Type 0 where
+pub record IsScopeOf (s : code.Scope) (side : Side) (messages : List Message) (p : Process)
+    : Type 0 where
   pub seen : scope_seen s ≡ scope_of side messages p
   pub start_name : s.start.now ≡ p.start
 
--- what the process of the scope says can be numbered: no number in it is too large
+-- What the process of the scope says can be numbered: each place fits in a byte, and each number in
+-- two.
 pub record IsNumberable (s : code.Scope) : Type 0 where
   pub small : IsSmallScope s
   pub firsts : list_any (λ v. is_large_initial v.first) s.vars ≡ false

@@ -3,49 +3,48 @@
 ghost use Rattle.std.specs.Prelude.{◌≡◌, IfOk, IfErr};
 ghost use Rattle.proto_model.specs.Faults.{IsWellFormed, first_fault};
 ghost use Rattle.proto_model.specs.Numbered.{numbered};
-ghost use Rattle.proto_model.specs.Proper.{IsProper};
+ghost use Rattle.proto_model.specs.Proper.{IsProper, IsProperChecked};
 ghost use Rattle.proto_model.specs.declared.numbered.Side.TheVariants as side;
 ghost use Rattle.star_check.specs.Scopes.{IsScopeOf};
 ghost use Rattle.star_check.specs.Tells.{Tells, Checks};
-ghost use Rattle.star_check.specs.declared.checked.CheckError.TheVariants.{Refused};
-ghost use Rattle.star_check.specs.declared.checked.CheckError.TheVariants.{NoMemory as out_of_memory};
+ghost use Rattle.star_check.specs.declared.checked.CheckError.TheVariants as check_error;
 
 use crate::declared::Declared;
 use crate::fault::Fault;
-use crate::number::{number_body, number_messages};
+use crate::number::{number_body, number_claims, number_messages};
 use crate::scope::Scope;
 use crate::walk::check_items;
-use proto_model::{Body, Message, MessageInfo, Name, Protocol, Side};
+use proto_model::{Body, Message, MessageInfo, Name, Protocol, RuleClaim, Side};
 use rv_base::{Items, NoMemory};
 use std::alloc::Global;
 use std::marker::Model;
 
-/// A well-formed protocol in numbered form: each name that a guard uses is replaced by its place in
-/// file order, counted from 0. Contracts see what the file says, in
-/// numbered form; the protocol is proper.
+/// A well-formed protocol in numbered form: each name that a guard or a claim uses is replaced by
+/// its place in file order, counted from 0. Contracts see what the file says, in numbered form: the
+/// protocol and its claims, which are proper.
 #[derive(Debug, Drop)]
 pub struct Checked {
     name: Name,
     messages: Items<MessageInfo>,
     home: Body,
     remote: Body,
+    claims: Items<RuleClaim>,
 }
 
 impl Model for Checked {
     ghost use Rattle.proto_model.specs.Numbered.{CheckedProtocol};
-    ghost use Rattle.proto_model.specs.Proper.{IsProper};
+    ghost use Rattle.proto_model.specs.Proper.{IsProperChecked};
 
     ghost Value = { CheckedProtocol };
 
     ghost view = { λ c. record {
       protocol = record { name = c.name; messages = c.messages; home = c.home; remote = c.remote };
+      claims = c.claims;
     } };
 
-    ghost invariant = { λ c. IsProper (record {
-      name = c.name;
-      messages = c.messages;
-      home = c.home;
-      remote = c.remote;
+    ghost invariant = { λ c. IsProperChecked (record {
+      protocol = record { name = c.name; messages = c.messages; home = c.home; remote = c.remote };
+      claims = c.claims;
     }) };
 }
 
@@ -80,6 +79,14 @@ impl Checked {
     {
         &self.remote
     }
+
+    /// The claims in file order.
+    pub fn claims(&self) -> &[RuleClaim]
+        ensures value { result.now ≡ self.now.claims }
+        ensures proper { IsProperChecked self.now }
+    {
+        self.claims.as_slice()
+    }
 }
 
 /// Why a protocol was not checked: it has a fault, the first of which is told, or there was no
@@ -91,7 +98,7 @@ pub enum CheckError {
 }
 
 impl From<NoMemory> for CheckError {
-    ghost from_gives = { λ _ e. e ≡ out_of_memory };
+    ghost from_gives = { λ _ e. e ≡ check_error.NoMemory };
 
     fn from(_: NoMemory) -> CheckError {
         CheckError::NoMemory
@@ -99,7 +106,7 @@ impl From<NoMemory> for CheckError {
 }
 
 impl From<Fault> for CheckError {
-    ghost from_gives = { λ f e. e ≡ Refused f };
+    ghost from_gives = { λ f e. e ≡ check_error.Refused f };
 
     fn from(fault: Fault) -> CheckError {
         CheckError::Refused(fault)
@@ -146,7 +153,13 @@ fn check_scopes(
     requires remote { IsScopeOf remote.now side.Remote protocol.now.messages protocol.now.remote }
     ensures { Checks result protocol.now }
 {
-    check_items(&protocol.name, home.messages, home, remote)?;
+    check_items(
+        &protocol.name,
+        home.messages,
+        home,
+        remote,
+        protocol.claims.as_slice(),
+    )?;
     let checked = number(alloc, protocol, home, remote)?;
     Ok(checked)
 }
@@ -167,5 +180,6 @@ fn number(
         messages: number_messages(alloc, home.messages)?,
         home: number_body(alloc, home)?,
         remote: number_body(alloc, remote)?,
+        claims: number_claims(alloc, &remote.states, protocol.claims.as_slice())?,
     })
 }

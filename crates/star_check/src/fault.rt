@@ -8,8 +8,8 @@ pub struct Fault {
     pub item: u32,
 }
 
-/// A 65th message or state, a 17th variable or guard, or a guard with more than 8 conditions or
-/// assignments.
+/// A 65th message or state, a 17th variable, guard or claim, a guard with more than 8 conditions or
+/// assignments, or a claim that names more than 64 states.
 pub(crate) const TOO_MANY: u8 = 10;
 /// A declared name of more than 32 bytes.
 pub(crate) const NAME_TOO_LONG: u8 = 11;
@@ -27,5 +27,6 @@ pub(crate) const NOT_STAR: u8 = 16;
 pub(crate) const ACTIVE_MIXED: u8 = 17;
 /// A remote's output with a condition.
 pub(crate) const ACTIVE_CONDITION: u8 = 18;
-/// An int bound out of range, a first number that is not below it, or too large a number.
+/// An int bound out of range, a first number that is not below it, or too large a number in a guard
+/// or a claim.
 pub(crate) const BAD_NUMBER: u8 = 19;

@@ -10,24 +10,28 @@ use crate::fault::{
     ACTIVE_CONDITION, ACTIVE_MIXED, BAD_NUMBER, DUPLICATE, NAME_TOO_LONG, NOT_STAR, TOO_MANY,
     UNKNOWN, WRONG_DIRECTION, WRONG_TYPE,
 };
-use crate::large_numbers::is_large_guard;
+use crate::large_numbers::{is_large_claim, is_large_guard};
 use crate::scope::Scope;
 use proto_model::{
-    Carry, Guard, GuardKind, Initial, Message, Name, Partner, Side, State, Var, VarKind,
+    Carry, Claim, Guard, GuardKind, Initial, Message, Name, Partner, Side, State, Var, VarKind,
 };
 
 // How long a declared name may be, in bytes.
 const LONGEST_NAME: usize = 32;
-// How many messages a protocol may have, and how many states a process.
+// How many messages a protocol may have.
 const MOST_MESSAGES: usize = 64;
-
+// How many states a process may have.
 const MOST_STATES: usize = 64;
-// How many variables a process may have, and how many guards a state.
+// How many variables a process may have.
 const MOST_VARS: usize = 16;
-
+// How many guards a state may have.
 const MOST_GUARDS: usize = 16;
 // How many conditions a guard may have, and how many assignments.
 const MOST_PARTS: usize = 8;
+// How many claims a protocol may have.
+const MOST_CLAIMS: usize = 16;
+// How many states a claim may name.
+const MOST_NAMED: usize = 64;
 
 /// The code of the declared name.
 pub(crate) fn name_code(name: &Name) -> Option<u8>
@@ -232,7 +236,7 @@ fn is_conditioned_output(side: Side, guard: &Guard) -> bool
     }
 }
 
-fn is_too_many(place: usize, guard: &Guard) -> bool
+fn is_guard_too_many(place: usize, guard: &Guard) -> bool
     ensures { result ≡ spec.is_guard_too_many place guard.now }
 {
     place >= MOST_GUARDS
@@ -245,7 +249,7 @@ pub(crate) fn guard_code(scope: &Scope, place: usize, guard: &Guard) -> Option<u
     ensures code { result ≡ spec.first (spec.guard_codes (scope_seen scope.now) place guard.now) }
     ensures few { IfNone result (place < 16) }
 {
-    if is_too_many(place, guard) {
+    if is_guard_too_many(place, guard) {
         return Some(TOO_MANY);
     }
     if !scope.knows_guard(guard) {
@@ -264,6 +268,32 @@ pub(crate) fn guard_code(scope: &Scope, place: usize, guard: &Guard) -> Option<u
         return Some(ACTIVE_CONDITION);
     }
     if is_large_guard(guard) {
+        return Some(BAD_NUMBER);
+    }
+    None
+}
+
+fn is_claim_too_many(place: usize, claim: &Claim) -> bool
+    ensures { result ≡ spec.is_claim_too_many place claim.now }
+{
+    match claim {
+        Claim::AtMost(_, states) => { place >= MOST_CLAIMS || states.as_slice().len() > MOST_NAMED }
+        Claim::Apart(_, _) => place >= MOST_CLAIMS,
+    }
+}
+
+/// The least code of the claim at this place, whose states are those of a remote.
+pub(crate) fn claim_code(states: &Declared<State>, place: usize, claim: &Claim) -> Option<u8>
+    ensures code { result ≡ spec.first (spec.claim_codes states.now place claim.now) }
+    ensures few { IfNone result (place < 16) }
+{
+    if is_claim_too_many(place, claim) {
+        return Some(TOO_MANY);
+    }
+    if !states.knows_claim(claim) {
+        return Some(UNKNOWN);
+    }
+    if is_large_claim(claim) {
         return Some(BAD_NUMBER);
     }
     None

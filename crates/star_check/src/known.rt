@@ -1,11 +1,12 @@
-//! Whether the variables that the parts of a guard use are declared.
+//! Whether the variables that the parts of a guard use are declared, and the states of a claim.
 
 ghost use Rattle.std.specs.Prelude.{◌≡◌};
 ghost use Rattle.std.specs.List.{list_all};
 ghost use Rattle.proto_model.specs.Known as spec;
+ghost use Rattle.proto_model.specs.Names.{is_declared, state_names};
 
 use crate::declared::Declared;
-use proto_model::{Assign, Atom, Expr, Name, Partner, Side, Term, Var};
+use proto_model::{Assign, Atom, Claim, Expr, Name, Partner, Side, State, Term, Var};
 
 impl Declared<'_, Var> {
     fn knows_term(&self, term: &Term) -> bool
@@ -85,6 +86,24 @@ impl Declared<'_, Var> {
         match value {
             Some(expr) => self.knows_expr(expr),
             None => true,
+        }
+    }
+}
+
+impl Declared<'_, State> {
+    fn has_all(&self, names: &[Name]) -> bool
+        ensures { result ≡ list_all (λ name. is_declared name (state_names self.now)) names.now }
+    {
+        names.iter().all(|name| self.has(name))
+    }
+
+    /// Whether each state that the claim names is declared.
+    pub(crate) fn knows_claim(&self, claim: &Claim) -> bool
+        ensures { result ≡ spec.knows_claim self.now claim.now }
+    {
+        match claim {
+            Claim::AtMost(_, names) => self.has_all(names.as_slice()),
+            Claim::Apart(one, other) => self.has(one) && self.has(other),
         }
     }
 }

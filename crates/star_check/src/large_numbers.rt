@@ -1,13 +1,15 @@
-//! Whether a guard writes a number that no int holds.
+//! Whether a guard writes a number that no int holds, or a claim one above all numbers of remotes.
 
 ghost use Rattle.std.specs.Prelude.{◌≡◌};
 ghost use Rattle.std.specs.List.{list_any};
 ghost use Rattle.proto_model.specs.Faults as spec;
 
-use proto_model::{Assign, Atom, Expr, Guard, GuardKind, Term};
+use proto_model::{Assign, Atom, Claim, Expr, Guard, GuardKind, Term};
 
 // The greatest int.
 const GREATEST: u32 = 65535;
+// How many remotes there are at most.
+const MOST_REMOTES: u32 = 64;
 
 fn is_large_term(term: &Term) -> bool
     ensures { result ≡ spec.is_large_term term.now }
@@ -70,4 +72,14 @@ pub(crate) fn is_large_guard(guard: &Guard) -> bool
     is_large_action(&guard.kind)
         || has_large_atom(guard.conds.as_slice())
         || has_large_assign(guard.assigns.as_slice())
+}
+
+/// Whether the number of the claim is above 64.
+pub(crate) fn is_large_claim(claim: &Claim) -> bool
+    ensures { result ≡ spec.is_large_claim claim.now }
+{
+    match claim {
+        Claim::AtMost(most, _) => *most > MOST_REMOTES,
+        Claim::Apart(_, _) => false,
+    }
 }

@@ -2,7 +2,8 @@
 //!
 //! - `declared`: the declarations of a kind, looked up by name.
 //! - `scope`: what the guards of a process can name, and what a guard may say there.
-//! - `known`, `types`, `large_numbers`: what is asked of the names, types and numbers of a guard.
+//! - `known`, `types`, `large_numbers`: what is asked of the names, types and numbers of a guard,
+//!   and of the names and numbers of a claim.
 //! - `item_codes`: the least code of an item.
 //! - `fault`: a fault, and the codes.
 //! - `walk`: the first fault of a protocol, item by item.

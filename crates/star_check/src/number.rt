@@ -1,6 +1,6 @@
 //! The numbered form: each name that is used is replaced by the place of its first declaration.
 
-ghost use Rattle.std.specs.Prelude.{◌≡◌, ◌≤◌, ◌||◌, Bool, true, false, length, map, IfOk};
+ghost use Rattle.std.specs.Prelude.{◌≡◌, ◌<◌, ◌≤◌, ◌||◌, Bool, true, false, length, map, IfOk};
 ghost use Rattle.std.specs.List.{list_any};
 ghost use Rattle.std.specs.Option.{option_map};
 ghost use Rattle.proto_model.specs.Faults as faults;
@@ -10,9 +10,9 @@ ghost use Rattle.star_check.specs.Scopes.{IsNumberable, process_seen, is_large_i
 use crate::declared::{Declaration, Declared};
 use crate::scope::Scope;
 use proto_model::{
-    Assign, Atom, Body, Expr, Guard, GuardKind, Initial, Message, MessageInfo, Name, Partner, Rule,
-    RuleAssign, RuleAtom, RuleExpr, RuleKind, RulePartner, RuleTerm, State, StateInfo, Term, Value,
-    Var, VarInfo,
+    Assign, Atom, Body, Claim, Expr, Guard, GuardKind, Initial, Message, MessageInfo, Name,
+    Partner, Rule, RuleAssign, RuleAtom, RuleClaim, RuleExpr, RuleKind, RulePartner, RuleTerm,
+    State, StateInfo, Term, Value, Var, VarInfo,
 };
 use rv_base::{Items, NoMemory};
 use std::alloc::Global;
@@ -21,7 +21,8 @@ impl<T: Declaration> Declared<'_, T> {
     // The place of what the name means, 0 where it is not declared.
     fn number(&self, name: &Name) -> u8
         requires { length self.now ≤ 64 }
-        ensures { result ≡ spec.place_or_zero name.now (map T.name_of self.now) }
+        ensures value { result ≡ spec.place_or_zero name.now (map T.name_of self.now) }
+        ensures small { result < 64 }
     {
         match self.place(name) {
             Some(place) => place as u8,
@@ -75,16 +76,30 @@ impl Declared<'_, Var> {
     }
 }
 
+impl Declared<'_, State> {
+    // The set of the states that the names mean.
+    fn number_set(&self, names: &[Name]) -> u64
+        requires { length self.now ≤ 64 }
+        ensures { result ≡ spec.state_set self.now names.now }
+    {
+        let mut set = 0;
+        for name in names {
+            set |= 1 << self.number(name);
+        }
+        set
+    }
+}
+
 // What has a numbered form in a scope `S` of names.
 trait Numbered<S> {
     type Form: Drop;
 
     ghost form: { S → Self → Self.Form };
 
-    /// Whether it writes a number that no int holds.
+    // Whether it writes a number that does not fit its numbered form.
     ghost is_large: { Self → Bool };
 
-    /// The scope has few enough names for their places to fit.
+    // The scope has few enough names for their places to fit.
     ghost is_small: { S → Type 0 };
 
     // Its numbered form.
@@ -272,6 +287,32 @@ impl Numbered<()> for Message {
     }
 }
 
+impl<'a> Numbered<Declared<'a, State>> for Claim {
+    type Form = RuleClaim;
+
+    ghost form = { spec.numbered_claim };
+
+    ghost is_large = { faults.is_large_claim };
+
+    ghost is_small = { λ states. length states ≤ 64 };
+
+    fn numbered(
+        &self,
+        _alloc: Global,
+        states: &Declared<'a, State>,
+    ) -> Result<RuleClaim, NoMemory> {
+        match self {
+            Claim::AtMost(most, names) => {
+                let set = states.number_set(names.as_slice());
+                Ok(RuleClaim::AtMost(*most as u8, set))
+            }
+            Claim::Apart(one, other) => {
+                Ok(RuleClaim::Apart(states.number(one), states.number(other)))
+            }
+        }
+    }
+}
+
 /// The numbered messages.
 pub(crate) fn number_messages(
     alloc: Global,
@@ -293,4 +334,17 @@ pub(crate) fn number_body(alloc: Global, scope: &Scope) -> Result<Body, NoMemory
         start: scope.states.number(scope.start),
         states: numbered_items(alloc, &*scope, scope.states.items())?,
     })
+}
+
+/// The numbered claims on these states of the remote.
+pub(crate) fn number_claims(
+    alloc: Global,
+    states: &Declared<State>,
+    claims: &[Claim],
+) -> Result<Items<RuleClaim>, NoMemory>
+    requires few { length states.now ≤ 64 }
+    requires fits { list_any faults.is_large_claim claims.now ≡ false }
+    ensures { IfOk result (λ rules. rules ≡ map (spec.numbered_claim states.now) claims.now) }
+{
+    numbered_items(alloc, states, claims)
 }

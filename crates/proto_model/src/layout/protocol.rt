@@ -1,7 +1,7 @@
 //! The lines of a protocol.
 #![tactic(auto, using(crate::proofs::Writing::layout))]
 
-ghost use Rattle.std.specs.Prelude.{[], ◌∷◌, map};
+ghost use Rattle.std.specs.Prelude.{[], ◌∷◌, map, codes};
 ghost use Rattle.std.specs.List.{flat_map};
 ghost use Rattle.proto_model.specs.Tokens.{item, part};
 ghost use Rattle.proto_model.specs.Grammar as grammar;
@@ -11,7 +11,7 @@ ghost use Rattle.proto_model.specs.Marks.{Lays, words, line_marks, marks_of};
 use crate::guard::Guard;
 use crate::layout::writer::Writer;
 use crate::name::Name;
-use crate::protocol::{Carry, Initial, Message, Process, Protocol, State, Var, VarKind};
+use crate::protocol::{Carry, Claim, Initial, Message, Process, Protocol, State, Var, VarKind};
 
 impl Writer {
     // The direction of a message.
@@ -151,15 +151,14 @@ impl Writer {
         }
     }
 
-    // A line that gives a name, of the protocol or of the state in which a process starts.
-    fn naming(&mut self, indent: usize, word: &[u8], name: &Name)
-        ensures { Lays
-            (line_marks (spec.at indent (item word.now ∷ part name.now ∷ grammar.semicolon ∷ [])))
-            self.old self.new }
+    // The line of the state in which a process starts.
+    fn start(&mut self, start: &Name)
+        ensures { Lays (line_marks (spec.at 2
+            (item (codes "start") ∷ part start.now ∷ grammar.semicolon ∷ []))) self.old self.new }
     {
-        self.indent(indent);
-        self.word(word);
-        self.word(name.bytes());
+        self.indent(2);
+        self.word(b"start");
+        self.word(start.bytes());
         self.word(b";");
         self.end_line();
     }
@@ -182,18 +181,87 @@ impl Writer {
     {
         self.opening(role);
         self.vars(process.vars.as_slice());
-        self.naming(2, b"start", &process.start);
+        self.start(&process.start);
         self.states(process.states.as_slice());
         self.closing(0);
+    }
+
+    // The version, if it is written: version 1 is not.
+    fn version(&mut self, version: u8)
+        ensures { Lays (words (grammar.version_tokens version)) self.old self.new }
+    {
+        if version != 1 {
+            self.word(b"version");
+            self.number(u32::from(version));
+        }
+    }
+
+    // The line of the header.
+    fn header(&mut self, name: &Name, version: u8)
+        ensures { Lays (line_marks (spec.at 0 (grammar.header_tokens name.now version))) self.old
+            self.new }
+    {
+        self.indent(0);
+        self.word(b"protocol");
+        self.word(name.bytes());
+        self.version(version);
+        self.word(b";");
+        self.end_line();
+    }
+
+    // The names of the states of which a claim counts the remotes.
+    fn names(&mut self, names: &[Name])
+        ensures { Lays (words (map part names.now)) self.old self.new }
+    {
+        for name in names {
+            self.word(name.bytes());
+        }
+    }
+
+    // A claim.
+    fn claim(&mut self, claim: &Claim)
+        ensures { Lays (words (grammar.claim_tokens claim.now)) self.old self.new }
+    {
+        match claim {
+            Claim::AtMost(most, states) => {
+                self.word(b"claim");
+                self.word(b"atmost");
+                self.number(*most);
+                self.word(b"in");
+                self.names(states.as_slice());
+                self.word(b";");
+            }
+            Claim::Apart(one, other) => {
+                self.word(b"claim");
+                self.word(b"not");
+                self.word(one.bytes());
+                self.word(b"with");
+                self.word(other.bytes());
+                self.word(b";");
+            }
+        }
+    }
+
+    // The line of each claim.
+    fn claims(&mut self, claims: &[Claim])
+        ensures { Lays (marks_of (map (λ c. spec.at 0 (grammar.claim_tokens c)) claims.now))
+            self.old self.new }
+    {
+        for claim in claims {
+            self.indent(0);
+            self.claim(claim);
+            self.end_line();
+        }
     }
 
     /// The lines of a protocol.
     pub(super) fn protocol(&mut self, protocol: &Protocol)
         ensures { Lays (marks_of (spec.lines_of protocol.now)) self.old self.new }
     {
-        self.naming(0, b"protocol", &protocol.name);
+        self.header(&protocol.name, protocol.version);
         self.messages(protocol.messages.as_slice());
         self.process(b"home", &protocol.home);
         self.process(b"remote", &protocol.remote);
+        self.claims(protocol.claims.as_slice());
     }
 }

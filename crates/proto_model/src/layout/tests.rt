@@ -1,4 +1,4 @@
-//! The laid-out text of a protocol that uses every rule of the grammar.
+//! The laid-out texts of two protocols, which together use every rule of the grammar.
 #![tactic(auto, unfolding(crate::specs::Tokens::is_word))]
 
 ghost use Rattle.proto_model.specs.Tokens.{AllWord};
@@ -6,7 +6,7 @@ ghost use Rattle.proto_model.specs.Tokens.{AllWord};
 use super::*;
 use crate::guard::{Assign, Atom, Expr, Guard, GuardKind, Partner, Rel, Term};
 use crate::name::Name;
-use crate::protocol::{Carry, Initial, Message, Process, State, Var, VarKind};
+use crate::protocol::{Carry, Claim, Initial, Message, Process, State, Var, VarKind};
 use rv_base::Items;
 use std::test::Fail;
 
@@ -39,6 +39,17 @@ remote {
     to home ! ask goto Still;
   }
 }
+";
+
+static WITH_CLAIMS: &str = "protocol small version 2;
+home {
+  start Still;
+}
+remote {
+  start Still;
+}
+claim atmost 1 in Still Gone;
+claim not Still with Gone;
 ";
 
 macro_rules! items {
@@ -225,16 +236,52 @@ fn remote(alloc: Global) -> Result<Process, NoMemory> {
 }
 
 #[test]
-fn every_rule_is_laid_out(rt: HostRuntime) -> Result<(), Fail> {
+fn every_rule_of_version_1_is_laid_out(rt: HostRuntime) -> Result<(), Fail> {
     let alloc = rt.alloc();
     let protocol = Protocol {
         name: Name::new(alloc, b"whole_1")?,
+        version: 1,
         messages: messages(alloc)?,
         home: home(alloc)?,
         remote: remote(alloc)?,
+        claims: Items::new(alloc),
     };
     let mut out = Vec::new(alloc);
     print(alloc, &protocol, &mut out)?;
     assert_eq!(rt; out.as_slice(), TEXT.as_bytes());
+    Ok(())
+}
+
+// A process that names its start alone.
+fn still(alloc: Global) -> Result<Process, NoMemory> {
+    Ok(Process {
+        vars: Items::new(alloc),
+        start: Name::new(alloc, b"Still")?,
+        states: Items::new(alloc),
+    })
+}
+
+fn claims(alloc: Global) -> Result<Items<Claim>, NoMemory> {
+    let states = items![alloc; Name::new(alloc, b"Still")?, Name::new(alloc, b"Gone")?];
+    Ok(items![alloc;
+        Claim::AtMost(1, states),
+        Claim::Apart(Name::new(alloc, b"Still")?, Name::new(alloc, b"Gone")?)
+    ])
+}
+
+#[test]
+fn the_version_and_the_claims_are_laid_out(rt: HostRuntime) -> Result<(), Fail> {
+    let alloc = rt.alloc();
+    let protocol = Protocol {
+        name: Name::new(alloc, b"small")?,
+        version: 2,
+        messages: Items::new(alloc),
+        home: still(alloc)?,
+        remote: still(alloc)?,
+        claims: claims(alloc)?,
+    };
+    let mut out = Vec::new(alloc);
+    print(alloc, &protocol, &mut out)?;
+    assert_eq!(rt; out.as_slice(), WITH_CLAIMS.as_bytes());
     Ok(())
 }

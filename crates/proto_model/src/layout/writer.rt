@@ -6,6 +6,7 @@ ghost use Rattle.proto_model.specs.LaidOut as spec;
 ghost use Rattle.proto_model.specs.Marks as marks;
 ghost use Rattle.proto_model.specs.Marks.{Puts, Stands, Lays, Indent, Word, LineEnd};
 
+use crate::appending::put;
 use itoa::Buffer;
 use rv_base::NoMemory;
 
@@ -96,8 +97,6 @@ impl Writer {
     fn put(&mut self, bytes: &[u8])
         ensures { Puts bytes.now self.old self.new }
     {
-        if self.result.is_ok() {
-            self.result = self.text.extend_from_slice(bytes).map_err(NoMemory::from);
-        }
+        self.result = put(&mut self.text, self.result, bytes);
     }
 }

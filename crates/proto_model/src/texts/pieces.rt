@@ -1,33 +1,15 @@
 //! The pieces of the texts. Each call is handed what came of the ones before it, appends its piece
 //! unless memory ran out there, and answers what came of them all.
 
-ghost use Rattle.std.specs.Prelude.{◌≡◌, ◌<◌, length, decimal, if◌then◌else◌};
+ghost use Rattle.std.specs.Prelude.{◌≡◌, ◌<◌, length};
 ghost use Rattle.proto_model.specs.Continued.{Continues};
 ghost use Rattle.proto_model.specs.Texts as texts;
 
+use crate::appending::{Put, put, put_number};
 use crate::numbered::{Body, MessageInfo, Value, VarInfo};
 use crate::protocol::Carry;
 use crate::rendezvous::{Event, Part};
 use crate::values::{Vars, has_node};
-use itoa::Buffer;
-use rv_base::NoMemory;
-
-type Put = Result<(), NoMemory>;
-
-fn put(out: &mut Vec<u8>, so_far: Put, text: &[u8]) -> Put
-    ensures { Continues text.now so_far out.old.items result out.new.items }
-{
-    if so_far.is_err() {
-        return so_far;
-    }
-    out.extend_from_slice(text).map_err(NoMemory::from)
-}
-
-fn put_number(out: &mut Vec<u8>, so_far: Put, number: u32) -> Put
-    ensures { Continues (decimal number) so_far out.old.items result out.new.items }
-{
-    put(out, so_far, Buffer::new().format(number).as_bytes())
-}
 
 // What stands before a member of a set.
 fn separator(first: bool) -> &'static [u8]

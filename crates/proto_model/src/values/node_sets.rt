@@ -3,8 +3,8 @@
 ghost use Rattle.std.specs.Prelude.{◌≡◌};
 ghost use Rattle.proto_model.specs.NodeSets as sets;
 
-/// Whether the set has the remote.
-pub(crate) fn has_node(set: u64, node: u8) -> bool
+/// Whether the set has the remote, or a set of states the state. Numbers from 64 on are in no set.
+pub fn has_node(set: u64, node: u8) -> bool
     ensures { result ≡ sets.has_node set node }
 {
     node < 64 && (set >> node) % 2 == 1

@@ -7,7 +7,7 @@ ghost use Rattle.protocol_reader.specs.Reads.{Reads};
 use super::expression::expression;
 use super::name::name;
 use super::repeated::{Repeated, and_all};
-use super::token::{expect, takes};
+use super::token::{expect, is_among, takes};
 use crate::cursor::Cursor;
 use crate::error::ReadError;
 use proto_model::Assign;
@@ -15,12 +15,12 @@ use rv_base::Items;
 use std::alloc::Global;
 
 impl Repeated for Assign {
-    ghost words = { codes "," ∷ [] };
+    ghost comes = { spec.is_among (codes "," ∷ []) };
 
     ghost reader = { spec.comma_assignment };
 
-    fn words() -> &'static [&'static [u8]] {
-        &[b","]
+    fn comes(text: &[u8]) -> bool {
+        is_among(&[b","], text)
     }
 
     #[tactic(auto, using(crate::proofs::Shorter::comma_assignment_taken))]
@@ -29,7 +29,7 @@ impl Repeated for Assign {
     }
 }
 
-/// `NAME = expression`
+// `NAME = expression`
 #[tactic(auto, unfolding(crate::specs::Reading::assignment))]
 fn assignment(alloc: Global, cursor: &mut Cursor<'_>) -> Result<Assign, ReadError>
     ensures { Reads (spec.assignment cursor.old) result cursor.new }
@@ -40,7 +40,7 @@ fn assignment(alloc: Global, cursor: &mut Cursor<'_>) -> Result<Assign, ReadErro
     Ok(Assign { var, value })
 }
 
-/// `, assignment`
+// `, assignment`
 #[tactic(auto, unfolding(crate::specs::Reading::comma_assignment))]
 fn comma_assignment(alloc: Global, cursor: &mut Cursor<'_>) -> Result<Assign, ReadError>
     ensures { Reads (spec.comma_assignment cursor.old) result cursor.new }

@@ -6,7 +6,7 @@ ghost use Rattle.protocol_reader.specs.Reads.{Reads};
 
 use super::expression::expression;
 use super::repeated::{Repeated, and_all};
-use super::token::{expect, takes};
+use super::token::{expect, is_among, takes};
 use crate::cursor::Cursor;
 use crate::error::ReadError;
 use proto_model::{Atom, Rel};
@@ -14,12 +14,12 @@ use rv_base::Items;
 use std::alloc::Global;
 
 impl Repeated for Atom {
-    ghost words = { codes "and" ∷ [] };
+    ghost comes = { spec.is_among (codes "and" ∷ []) };
 
     ghost reader = { spec.and_atom };
 
-    fn words() -> &'static [&'static [u8]] {
-        &[b"and"]
+    fn comes(text: &[u8]) -> bool {
+        is_among(&[b"and"], text)
     }
 
     #[tactic(auto, using(crate::proofs::Shorter::and_atom_taken))]
@@ -28,7 +28,7 @@ impl Repeated for Atom {
     }
 }
 
-/// `eq | ne | lt | le | in | notin`
+// `eq | ne | lt | le | in | notin`
 #[tactic(auto, unfolding(crate::specs::Reading::relation))]
 fn relation(cursor: &mut Cursor<'_>) -> Result<Rel, ReadError>
     ensures { Reads (spec.relation cursor.old) result cursor.new }
@@ -52,7 +52,7 @@ fn relation(cursor: &mut Cursor<'_>) -> Result<Rel, ReadError>
     Ok(Rel::Outside)
 }
 
-/// `expression relation expression`
+// `expression relation expression`
 #[tactic(auto, unfolding(crate::specs::Reading::atom))]
 fn atom(alloc: Global, cursor: &mut Cursor<'_>) -> Result<Atom, ReadError>
     ensures { Reads (spec.atom cursor.old) result cursor.new }
@@ -63,7 +63,7 @@ fn atom(alloc: Global, cursor: &mut Cursor<'_>) -> Result<Atom, ReadError>
     Ok(Atom { left, rel, right })
 }
 
-/// `and atom`
+// `and atom`
 #[tactic(auto, unfolding(crate::specs::Reading::and_atom))]
 fn and_atom(alloc: Global, cursor: &mut Cursor<'_>) -> Result<Atom, ReadError>
     ensures { Reads (spec.and_atom cursor.old) result cursor.new }

@@ -11,7 +11,7 @@ use crate::error::ReadError;
 use proto_model::{Expr, Term};
 use std::alloc::Global;
 
-/// `none | empty | NUMBER | NAME`
+// `none | empty | NUMBER | NAME`
 #[tactic(auto, unfolding(crate::specs::Reading::operand, crate::specs::Reading::number_or_name))]
 fn operand(alloc: Global, cursor: &mut Cursor<'_>) -> Result<Term, ReadError>
     ensures { Reads (spec.operand cursor.old) result cursor.new }

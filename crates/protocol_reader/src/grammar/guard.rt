@@ -8,19 +8,19 @@ use super::condition::conditions;
 use super::expression::expression;
 use super::name::name;
 use super::repeated::Repeated;
-use super::token::{begin, begins, expect, takes};
+use super::token::{begin, begins, expect, is_among, takes};
 use crate::cursor::Cursor;
 use crate::error::ReadError;
 use proto_model::{Expr, Guard, GuardKind, Name, Partner};
 use std::alloc::Global;
 
 impl Repeated for Guard {
-    ghost words = { spec.guard_words };
+    ghost comes = { spec.is_among spec.guard_words };
 
     ghost reader = { spec.guard };
 
-    fn words() -> &'static [&'static [u8]] {
-        &[b"tau", b"from", b"to"]
+    fn comes(text: &[u8]) -> bool {
+        is_among(&[b"tau", b"from", b"to"], text)
     }
 
     #[tactic(auto, using(crate::proofs::Shorter::guard_taken))]
@@ -29,7 +29,7 @@ impl Repeated for Guard {
     }
 }
 
-/// `action [when ..] [do ..] goto NAME;`
+// `action [when ..] [do ..] goto NAME;`
 #[tactic(auto, unfolding(crate::specs::Reading::guard))]
 fn guard(alloc: Global, cursor: &mut Cursor<'_>) -> Result<Guard, ReadError>
     ensures { Reads (spec.guard cursor.old) result cursor.new }
@@ -48,7 +48,7 @@ fn guard(alloc: Global, cursor: &mut Cursor<'_>) -> Result<Guard, ReadError>
     })
 }
 
-/// `tau | from input | to output`
+// `tau | from input | to output`
 #[tactic(auto, unfolding(crate::specs::Reading::guard_action))]
 fn guard_action(alloc: Global, cursor: &mut Cursor<'_>) -> Result<GuardKind, ReadError>
     ensures { Reads (spec.guard_action cursor.old) result cursor.new }
@@ -63,7 +63,7 @@ fn guard_action(alloc: Global, cursor: &mut Cursor<'_>) -> Result<GuardKind, Rea
     output(alloc, cursor)
 }
 
-/// `partner ? NAME [(NAME)]`
+// `partner ? NAME [(NAME)]`
 #[tactic(auto, unfolding(crate::specs::Reading::input))]
 fn input(alloc: Global, cursor: &mut Cursor<'_>) -> Result<GuardKind, ReadError>
     ensures { Reads (spec.mapped spec.input_of spec.input cursor.old) result cursor.new }
@@ -75,7 +75,7 @@ fn input(alloc: Global, cursor: &mut Cursor<'_>) -> Result<GuardKind, ReadError>
     Ok(GuardKind::Input(partner, message, bound))
 }
 
-/// `partner ! NAME [(expression)]`
+// `partner ! NAME [(expression)]`
 #[tactic(auto, unfolding(crate::specs::Reading::output))]
 fn output(alloc: Global, cursor: &mut Cursor<'_>) -> Result<GuardKind, ReadError>
     ensures { Reads (spec.mapped spec.output_of spec.output cursor.old) result cursor.new }
@@ -87,7 +87,7 @@ fn output(alloc: Global, cursor: &mut Cursor<'_>) -> Result<GuardKind, ReadError
     Ok(GuardKind::Output(partner, message, value))
 }
 
-/// `home | any NAME [in NAME] | NAME`
+// `home | any NAME [in NAME] | NAME`
 #[tactic(auto, unfolding(crate::specs::Reading::partner))]
 fn partner(alloc: Global, cursor: &mut Cursor<'_>) -> Result<Partner, ReadError>
     ensures { Reads (spec.partner cursor.old) result cursor.new }
@@ -107,7 +107,7 @@ fn partner(alloc: Global, cursor: &mut Cursor<'_>) -> Result<Partner, ReadError>
     Ok(Partner::Named(variable))
 }
 
-/// `[(NAME)]`
+// `[(NAME)]`
 #[tactic(auto, unfolding(crate::specs::Reading::bound))]
 fn bound(alloc: Global, cursor: &mut Cursor<'_>) -> Result<Option<Name>, ReadError>
     ensures { Reads (spec.bound cursor.old) result cursor.new }
@@ -120,7 +120,7 @@ fn bound(alloc: Global, cursor: &mut Cursor<'_>) -> Result<Option<Name>, ReadErr
     Ok(Some(variable))
 }
 
-/// `[(expression)]`
+// `[(expression)]`
 #[tactic(auto, unfolding(crate::specs::Reading::value))]
 fn value(alloc: Global, cursor: &mut Cursor<'_>) -> Result<Option<Expr>, ReadError>
     ensures { Reads (spec.value cursor.old) result cursor.new }

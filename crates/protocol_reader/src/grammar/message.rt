@@ -7,19 +7,19 @@ ghost use Rattle.protocol_reader.specs.Reads.{Reads};
 use super::name::name;
 use super::number::number;
 use super::repeated::Repeated;
-use super::token::{begin, expect, takes};
+use super::token::{begin, expect, is_among, takes};
 use crate::cursor::Cursor;
 use crate::error::ReadError;
 use proto_model::{Carry, Message};
 use std::alloc::Global;
 
 impl Repeated for Message {
-    ghost words = { codes "message" ∷ [] };
+    ghost comes = { spec.is_among (codes "message" ∷ []) };
 
     ghost reader = { spec.message };
 
-    fn words() -> &'static [&'static [u8]] {
-        &[b"message"]
+    fn comes(text: &[u8]) -> bool {
+        is_among(&[b"message"], text)
     }
 
     #[tactic(auto, using(crate::proofs::Shorter::message_taken))]
@@ -28,7 +28,7 @@ impl Repeated for Message {
     }
 }
 
-/// `message NAME (up | down) [type];`
+// `message NAME (up | down) [type];`
 #[tactic(auto, unfolding(crate::specs::Reading::message))]
 fn message(alloc: Global, cursor: &mut Cursor<'_>) -> Result<Message, ReadError>
     ensures { Reads (spec.message cursor.old) result cursor.new }
@@ -41,7 +41,7 @@ fn message(alloc: Global, cursor: &mut Cursor<'_>) -> Result<Message, ReadError>
     Ok(Message { name, up, carries })
 }
 
-/// `up | down`: whether it is `up`.
+// `up | down`: whether it is `up`.
 #[tactic(auto, unfolding(crate::specs::Reading::direction))]
 fn direction(cursor: &mut Cursor<'_>) -> Result<bool, ReadError>
     ensures { Reads (spec.direction cursor.old) result cursor.new }
@@ -53,7 +53,7 @@ fn direction(cursor: &mut Cursor<'_>) -> Result<bool, ReadError>
     Ok(false)
 }
 
-/// `[int NUMBER | node | set]`
+// `[int NUMBER | node | set]`
 #[tactic(auto, unfolding(crate::specs::Reading::carried))]
 fn carried(cursor: &mut Cursor<'_>) -> Result<Carry, ReadError>
     ensures { Reads (spec.carried cursor.old) result cursor.new }

@@ -6,12 +6,38 @@ ghost use Rattle.proto_model.specs.Tokens as tokens;
 ghost use Rattle.protocol_reader.specs.Reading as spec;
 ghost use Rattle.protocol_reader.specs.Reads.{Reads};
 
+use super::repeated::{Repeated, and_all};
 use super::token::is_among;
 use crate::cursor::Cursor;
 use crate::error::ReadError;
 use crate::lex::is_word;
 use proto_model::Name;
+use rv_base::Items;
 use std::alloc::Global;
+
+impl Repeated for Name {
+    ghost comes = { spec.is_name };
+
+    ghost reader = { spec.name };
+
+    fn comes(text: &[u8]) -> bool {
+        is_name(text)
+    }
+
+    #[tactic(auto, using(crate::proofs::Shorter::name_taken))]
+    fn read(alloc: Global, cursor: &mut Cursor<'_>) -> Result<Name, ReadError> {
+        name(alloc, cursor)
+    }
+}
+
+/// Takes one name or more.
+#[tactic(auto, unfolding(crate::specs::Reading::names))]
+pub fn names(alloc: Global, cursor: &mut Cursor<'_>) -> Result<Items<Name>, ReadError>
+    ensures { Reads (spec.names cursor.old) result cursor.new }
+{
+    let first = name(alloc, cursor)?;
+    and_all(alloc, cursor, first)
+}
 
 /// Takes a name.
 #[tactic(auto, unfolding(crate::specs::Reading::name))]
@@ -27,8 +53,8 @@ pub fn name(alloc: Global, cursor: &mut Cursor<'_>) -> Result<Name, ReadError>
     Ok(name)
 }
 
-/// Whether the text is a name: a letter or `_` and then letters, digits and `_`, but no reserved
-/// word.
+// Whether the text is a name: a letter or `_` and then letters, digits and `_`, but no reserved
+// word.
 #[tactic(auto, unfolding(crate::specs::Reading::is_name))]
 fn is_name(text: &[u8]) -> bool
     ensures { result ≡ spec.is_name text.now }
@@ -51,7 +77,7 @@ fn all_word(text: &[u8]) -> bool
     text.iter().all(|byte| is_word(*byte))
 }
 
-/// The words that are no names.
+// The words that are no names.
 const RESERVED: [&[u8]; 33] = [
     b"protocol",
     b"version",

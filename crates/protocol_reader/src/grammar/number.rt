@@ -8,7 +8,7 @@ use crate::cursor::Cursor;
 use crate::error::ReadError;
 use rv_base::read_number;
 
-/// The greatest number that a file can write.
+// The greatest number that a file can write.
 const NUMBER_LIMIT: u64 = 99_999;
 
 /// Takes a number.
@@ -30,7 +30,7 @@ pub fn is_number(text: &[u8]) -> bool
     number_in(text).is_some()
 }
 
-/// The number that the text writes: `0`, or a digit from 1 to 9 and up to four further digits.
+// The number that the text writes: `0`, or a digit from 1 to 9 and up to four further digits.
 #[tactic(auto, unfolding(crate::specs::Reading::number_in))]
 fn number_in(text: &[u8]) -> Option<u32>
     ensures { result ≡ spec.number_in text.now }

@@ -1,4 +1,4 @@
-//! States, processes and the protocol.
+//! States and processes.
 
 ghost use Rattle.std.specs.Prelude.{[], ◌∷◌, codes};
 ghost use Rattle.protocol_reader.specs.Reading as spec;
@@ -6,19 +6,19 @@ ghost use Rattle.protocol_reader.specs.Reads.{Reads};
 
 use super::name::name;
 use super::repeated::{Repeated, all};
-use super::token::{begin, expect};
+use super::token::{begin, expect, is_among};
 use crate::cursor::Cursor;
 use crate::error::ReadError;
-use proto_model::{Process, Protocol, State};
+use proto_model::{Process, State};
 use std::alloc::Global;
 
 impl Repeated for State {
-    ghost words = { codes "state" ∷ [] };
+    ghost comes = { spec.is_among (codes "state" ∷ []) };
 
     ghost reader = { spec.state };
 
-    fn words() -> &'static [&'static [u8]] {
-        &[b"state"]
+    fn comes(text: &[u8]) -> bool {
+        is_among(&[b"state"], text)
     }
 
     #[tactic(auto, using(crate::proofs::Shorter::state_taken))]
@@ -27,7 +27,7 @@ impl Repeated for State {
     }
 }
 
-/// `state NAME { guard* }`
+// `state NAME { guard* }`
 #[tactic(auto, unfolding(crate::specs::Reading::state))]
 fn state(alloc: Global, cursor: &mut Cursor<'_>) -> Result<State, ReadError>
     ensures { Reads (spec.state cursor.old) result cursor.new }
@@ -42,7 +42,7 @@ fn state(alloc: Global, cursor: &mut Cursor<'_>) -> Result<State, ReadError>
 
 /// `{ var* start NAME; state* }`
 #[tactic(auto, unfolding(crate::specs::Reading::process))]
-fn process(alloc: Global, cursor: &mut Cursor<'_>) -> Result<Process, ReadError>
+pub fn process(alloc: Global, cursor: &mut Cursor<'_>) -> Result<Process, ReadError>
     ensures { Reads (spec.process cursor.old) result cursor.new }
 {
     expect(cursor, b"{")?;
@@ -57,38 +57,4 @@ fn process(alloc: Global, cursor: &mut Cursor<'_>) -> Result<Process, ReadError>
         start,
         states,
     })
-}
-
-/// `protocol NAME; message* home process remote process`
-#[tactic(auto, unfolding(crate::specs::Reading::protocol))]
-fn protocol(alloc: Global, cursor: &mut Cursor<'_>) -> Result<Protocol, ReadError>
-    ensures { Reads (spec.protocol cursor.old) result cursor.new }
-{
-    begin(cursor, b"protocol")?;
-    let name = name(alloc, cursor)?;
-    expect(cursor, b";")?;
-    let messages = all(alloc, cursor)?;
-    begin(cursor, b"home")?;
-    let home = process(alloc, cursor)?;
-    begin(cursor, b"remote")?;
-    let remote = process(alloc, cursor)?;
-    Ok(Protocol {
-        name,
-        messages,
-        home,
-        remote,
-    })
-}
-
-/// Takes a whole file: a protocol, behind which the file ends. A fault of syntax has the line of
-/// the lexeme at which the cursor then stands.
-#[tactic(auto, unfolding(crate::specs::Reading::file))]
-pub fn file(alloc: Global, cursor: &mut Cursor<'_>) -> Result<Protocol, ReadError>
-    ensures { Reads (spec.file cursor.old) result cursor.new }
-{
-    let protocol = protocol(alloc, cursor)?;
-    if !cursor.is_at_end() {
-        return Err(cursor.refuse());
-    }
-    Ok(protocol)
 }

@@ -7,19 +7,19 @@ ghost use Rattle.protocol_reader.specs.Reads.{Reads};
 use super::name::name;
 use super::number::number;
 use super::repeated::Repeated;
-use super::token::{begin, expect, takes};
+use super::token::{begin, expect, is_among, takes};
 use crate::cursor::Cursor;
 use crate::error::ReadError;
 use proto_model::{Initial, Var, VarKind};
 use std::alloc::Global;
 
 impl Repeated for Var {
-    ghost words = { codes "var" ∷ [] };
+    ghost comes = { spec.is_among (codes "var" ∷ []) };
 
     ghost reader = { spec.variable };
 
-    fn words() -> &'static [&'static [u8]] {
-        &[b"var"]
+    fn comes(text: &[u8]) -> bool {
+        is_among(&[b"var"], text)
     }
 
     #[tactic(auto, using(crate::proofs::Shorter::variable_taken))]
@@ -28,7 +28,7 @@ impl Repeated for Var {
     }
 }
 
-/// `var NAME type = initial;`
+// `var NAME type = initial;`
 #[tactic(auto, unfolding(crate::specs::Reading::variable))]
 fn variable(alloc: Global, cursor: &mut Cursor<'_>) -> Result<Var, ReadError>
     ensures { Reads (spec.variable cursor.old) result cursor.new }
@@ -42,7 +42,7 @@ fn variable(alloc: Global, cursor: &mut Cursor<'_>) -> Result<Var, ReadError>
     Ok(Var { name, kind, first })
 }
 
-/// `int NUMBER | node | set`
+// `int NUMBER | node | set`
 #[tactic(auto, unfolding(crate::specs::Reading::var_kind))]
 fn var_kind(cursor: &mut Cursor<'_>) -> Result<VarKind, ReadError>
     ensures { Reads (spec.var_kind cursor.old) result cursor.new }
@@ -58,7 +58,7 @@ fn var_kind(cursor: &mut Cursor<'_>) -> Result<VarKind, ReadError>
     Ok(VarKind::Set)
 }
 
-/// `none | empty | NUMBER`
+// `none | empty | NUMBER`
 #[tactic(auto, unfolding(crate::specs::Reading::initial))]
 fn initial(cursor: &mut Cursor<'_>) -> Result<Initial, ReadError>
     ensures { Reads (spec.initial cursor.old) result cursor.new }

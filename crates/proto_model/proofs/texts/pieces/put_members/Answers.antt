@@ -4,7 +4,9 @@ use Rattle.proto_model.specs.Tokens.{Text}
 use Rattle.proto_model.specs.NodeSets.{has_node, members_below}
 use Rattle.proto_model.specs.Texts.{member_text}
 use Rattle.proto_model.specs.Continued.{Continues}
-use Rattle.proto_model.proofs.Continuing.{joined, is_nil, Continues-none, Continues-append, members_below-none, members_below-without, joined-with, is_nil-with}
+use Rattle.proto_model.proofs.Continuing.{joined, is_nil, Continues-none, Continues-append}
+use Rattle.proto_model.proofs.Continuing.{members_below-none, members_below-without, joined-with}
+use Rattle.proto_model.proofs.Continuing.{is_nil-with}
 use Rattle.proto_model.proofs.texts.pieces.put_members.Goals as goal
 use Rattle.proto_model.proofs.texts.pieces.put_members.Goals.{then-has_node, else-has_node}
 
@@ -25,7 +27,8 @@ loop-node-preserved c =
       | then-has_node w ↦
           let has : has_node set node ≡ true = cc in
           let grown : before ++ member_text c.loop-node.first node ≡ joined (members_below set (node + 1)) =
-          ap (λ (first : Bool). before ++ member_text first node) c.loop-node.invariant.first ∙ sym (joined-with set node has) in
+          ap (λ (first : Bool). before ++ member_text first node) c.loop-node.invariant.first
+          ∙ sym (joined-with set node has) in
           let both = Continues-append before (member_text c.loop-node.first node) c.args.so_far c.loop-node.so_far w.put_member-so_far.result c.args.out.now.items c.loop-node.out.items w.put_member-so_far.new.out.items c.loop-node.invariant.text w.put_member-so_far.ensures in
           record {
             text = rw (w.so_far-is, w.out-is) (subst (λ (text : Text). Continues text c.args.so_far c.args.out.now.items w.put_member-so_far.result w.put_member-so_far.new.out.items) grown both);

@@ -1,5 +1,6 @@
 -- A variable is written behind the ones before it.
-use Rattle.std.proofs.Common.{◌≡◌, ◌+◌, ◌<◌, ◌++◌, length, take, get_or, Option, Some, slice_get, unwrap_or, refl, sym, ap, subst, ◌∙◌, arith, add-one}
+use Rattle.std.proofs.Common.{◌≡◌, ◌+◌, ◌<◌, ◌++◌, length, take, get_or, Option, Some, slice_get}
+use Rattle.std.proofs.Common.{unwrap_or, refl, sym, ap, subst, ◌∙◌, arith, add-one}
 use Rattle.std.proofs.lemmas.Option.{slice_get_read, slice_get-get_or, unwrap_or-slice_get}
 use Rattle.proto_model.specs.Tokens.{Text}
 use Rattle.proto_model.specs.Texts.{var_text, vars_text}
@@ -20,8 +21,11 @@ loop-place-preserved c =
     let in_infos : place < length infos = omega arith in
     let info_is : slice_get infos place ≡ Some info = slice_get_read infos (length infos) place info refl in_infos c.index-infos-place.is in
     let worth : get_or vars place value.Unit ≡ v =
-    sym (unwrap_or-slice_get vars place value.Unit) ∙ ap (λ (o : Option Value). unwrap_or o value.Unit) (sym c.at.ensures) ∙ sym c.unwrap_or-value.ensures in
-    let v_is : slice_get vars place ≡ Some v = slice_get-get_or vars place value.Unit in_vars ∙ ap (λ (w : Value). Some w) worth in
+    sym (unwrap_or-slice_get vars place value.Unit)
+    ∙ ap (λ (o : Option Value). unwrap_or o value.Unit) (sym c.at.ensures)
+    ∙ sym c.unwrap_or-value.ensures in
+    let v_is : slice_get vars place ≡ Some v = slice_get-get_or vars place value.Unit in_vars
+    ∙ ap (λ (w : Value). Some w) worth in
     let before = vars_text (take place infos) (take place vars) in
     let both = Continues-append before (var_text info v) c.args.so_far c.loop-place.so_far c.put_var-so_far.result c.args.out.now.items c.loop-place.out.items c.put_var-so_far.new.out.items c.loop-place.invariant c.put_var-so_far.ensures in
     let grown : before ++ var_text info v ≡ vars_text (take (place + 1) infos) (take (place + 1) vars) =

@@ -2,7 +2,8 @@
 use Rattle.std.proofs.Common.{◌≡◌, ℕ, ◌<◌, true, false, sym, ap, ◌∙◌, arith}
 use Rattle.proto_model.specs.NodeSets.{has_node, nodes_below}
 use Rattle.proto_model.specs.Values.{may_meet}
-use Rattle.proto_model.proofs.NodeBits.{nodes_below-none, nodes_below-with, nodes_below-without, nodes_below-room, bit-small, has_node-nodes_below}
+use Rattle.proto_model.proofs.NodeBits.{nodes_below-none, nodes_below-with, nodes_below-without}
+use Rattle.proto_model.proofs.NodeBits.{nodes_below-room, bit-small, has_node-nodes_below}
 use Rattle.proto_model.proofs.values.evaluation.targets.Goals as goal
 use Rattle.proto_model.proofs.values.evaluation.targets.Goals.{then-is_target, else-is_target}
 

@@ -6,9 +6,9 @@ use Rattle.protocol_reader.proofs.grammar.repeated.each.Given as goal
 
 abbrev pub invariant-each : goal.invariant-each
 invariant-each g l =
-    let words = g.T.Repeated.words in
+    let comes = g.T.Repeated.comes in
     let read = g.T.Repeated.reader in
-    Goes words read l.items l.cursor (behind_items l.fn.items (many_at words read l.fn.cursor))
+    Goes comes read l.items l.cursor (behind_items l.fn.items (many_at comes read l.fn.cursor))
 
 abbrev pub decreases-each : goal.decreases-each
 decreases-each g l = length l.cursor.lexemes

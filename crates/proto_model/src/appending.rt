@@ -1,0 +1,28 @@
+//! Appending bytes to a text that is put together piece by piece. Once memory ran out nothing more
+//! is appended.
+
+ghost use Rattle.std.specs.Prelude.{decimal};
+ghost use Rattle.proto_model.specs.Continued.{Continues};
+
+use itoa::Buffer;
+use rv_base::NoMemory;
+
+/// What came of the pieces so far.
+pub(crate) type Put = Result<(), NoMemory>;
+
+/// Appends the bytes, unless memory ran out before.
+pub(crate) fn put(out: &mut Vec<u8>, so_far: Put, bytes: &[u8]) -> Put
+    ensures { Continues bytes.now so_far out.old.items result out.new.items }
+{
+    if so_far.is_err() {
+        return so_far;
+    }
+    out.extend_from_slice(bytes).map_err(NoMemory::from)
+}
+
+/// Appends the number's decimal text, unless memory ran out before.
+pub(crate) fn put_number(out: &mut Vec<u8>, so_far: Put, number: u32) -> Put
+    ensures { Continues (decimal number) so_far out.old.items result out.new.items }
+{
+    put(out, so_far, Buffer::new().format(number).as_bytes())
+}
