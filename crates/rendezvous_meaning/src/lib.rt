@@ -6,14 +6,18 @@
 //!
 //! - `moves`: where the processes that an event names stand after it.
 //! - `machine`: the machine, which stands in a configuration of its protocol at each moment.
-//! - `laws`: that the step as a relation and the step as it is computed are the same.
+//! - `claims`: which claim of a protocol is broken where its remotes stand.
+//! - `laws`: that the step as a relation and the step as it is computed are the same, and that a
+//!   claim is broken where it says what isn't so.
 //!
 //! What a step is, as a relation between two configurations, is defined in `proto_model`.
 #![tactic(auto)]
 
+mod claims;
 mod laws;
 mod machine;
 mod moves;
 
-pub use laws::next_is_the_step;
+pub use claims::broken;
+pub use laws::{claims_mean, next_is_the_step};
 pub use machine::RvMachine;

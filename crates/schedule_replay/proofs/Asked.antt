@@ -1,20 +1,18 @@
 -- What asking for the next line comes to.
-use Rattle.std.proofs.Common.{◌≡◌, ℕ, List, [], length, Bool, true, false, inl, inr, arith, refl}
-use Rattle.std.proofs.Common.{sym, ◌∙◌, ap, subst}
-use Rattle.std.proofs.lemmas.List.{append-nil, take_all}
+use Rattle.std.proofs.Common.{◌≡◌, ℕ, List, [], length, inr, arith, refl}
+use Rattle.std.proofs.Common.{sym, ◌∙◌, ap}
+use Rattle.std.proofs.lemmas.List.{take_all}
 use Rattle.std.specs.Prelude.{Result}
 use Rattle.std.specs.declared.option.Option.{Option}
 use Rattle.std.specs.Io.KnownBytes.{append_known}
 use Rattle.schedule_replay.specs.Reading.{Reading}
-use Rattle.schedule_replay.specs.NextLine.{NextMoves, is_fault}
-use Rattle.schedule_replay.specs.Replayed.{RisesWhere}
-use Rattle.schedule_replay.specs.Turns.{said, AskMoves, AskWrites, asks_fault, asks_write_fault}
+use Rattle.schedule_replay.specs.NextLine.{NextMoves}
+use Rattle.schedule_replay.specs.Turns.{said, AskMoves, AskWrites}
 use Rattle.schedule_replay.specs.declared.limits.Limits.{Limits}
 use Rattle.schedule_replay.specs.declared.lines.NextLine.{NextLine}
 use Rattle.schedule_replay.specs.declared.lines.NextLine.TheVariants.{Got, End, TooLong, TooMany}
 use Rattle.schedule_replay.specs.declared.lines.NextLine.TheVariants.{ReadFault, NoMemory}
 use Rattle.schedule_replay.specs.declared.replaying.Replayed.{Replayed}
-use Rattle.schedule_replay.proofs.PlayedSoFar.{puts-none}
 
 said-moves : (limits : Limits) (old new : Reading) (before after : Option (List ℕ))
     (answer : NextLine) → NextMoves limits old new before after answer

@@ -11,22 +11,8 @@ use Rattle.proto_model.specs.declared.rendezvous.Event.{Event}
 use Rattle.proto_model.specs.declared.rendezvous.Event.TheVariants as event
 use Rattle.schedule_replay.specs.EventLines.{HasNumbers, number, tau_event, meeting_event, event_of}
 
-pub no-words : (ws : List Text) (first : Option (Bor Text)) → option_copied first ≡ slice_get ws 0 → is_some first ≡ false → ws ≡ []
-no-words [] first is none = refl
-no-words (w ∷ ws) None is none = absurd (cc)
-no-words (w ∷ ws) (Some x) is none = absurd (cc)
-
-pub some-words : (ws : List Text) (first : Option (Bor Text)) → option_copied first ≡ slice_get ws 0 → is_some first ≡ true → ws ≢ []
-some-words [] None is some empty = cc
-some-words [] (Some x) is some empty = cc
-some-words (w ∷ ws) first is some empty = cc
-
-pub three-words : (ws : List Text) (a b c : Text) → Some a ≡ slice_get ws 0 → Some b ≡ slice_get ws 1 → Some c ≡ slice_get ws 2 → slice_get ws 3 ≡ None → ws ≡ a ∷ b ∷ c ∷ []
-three-words [] a b c x y z none = absurd (cc)
-three-words (p ∷ []) a b c x y z none = grind (arith, common_steps)
-three-words (p ∷ q ∷ []) a b c x y z none = grind (arith, common_steps)
-three-words (p ∷ q ∷ r ∷ []) a b c x y z none = grind (arith, common_steps)
-three-words (p ∷ q ∷ r ∷ s ∷ ws) a b c x y z none = grind (arith, common_steps)
+pub has-word : (word : Text) (others : List Text) → word ∷ others ≢ []
+has-word word others none = cc
 
 number-is : (word : Text) (n : ℕ) → number word ≡ Some n → (word ≡ decimal n) × IsNumber n
 number-is word n e = let h = number_of-Some word 99999 n e in (h.1, omega (arith, h.0))

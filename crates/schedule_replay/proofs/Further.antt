@@ -3,14 +3,15 @@ use Rattle.std.proofs.Common.{◌≡◌, ℕ, ◌+◌, List, [], ◌∷◌, ◌+
 use Rattle.std.proofs.Common.{ap, subst, length-append}
 use Rattle.std.specs.declared.option.Option.{Option}
 use Rattle.std.specs.Io.KnownBytes.{prepend_known, IsAtEnd}
+use Rattle.std.proofs.KnownBytes.{prepend_known-nil}
 use Rattle.rv_base.proofs.Moved.{prepend_known-append}
 use Rattle.schedule_replay.specs.Reading.{Reading}
-use Rattle.schedule_replay.specs.NextLine.{Took, Closes, Breaks, Lacks, NextMoves}
+use Rattle.schedule_replay.specs.NextLine.{Took, Closes, Breaks, Lacks, NextMoves, Waits}
 use Rattle.schedule_replay.specs.declared.limits.Limits.{Limits}
 use Rattle.schedule_replay.specs.declared.lines.NextLine.{NextLine}
 use Rattle.schedule_replay.specs.declared.lines.NextLine.TheVariants.{Got, End, TooLong, TooMany}
 use Rattle.schedule_replay.specs.declared.lines.NextLine.TheVariants.{ReadFault, NoMemory}
-use Rattle.schedule_replay.proofs.Taking.{Took-trans, Took-nothing}
+use Rattle.schedule_replay.proofs.Taking.{Took-trans, Took-nothing, Took-same}
 
 Closes-after : (old mid new : Reading) (before between after : Option (List ℕ))
     → Took before between old.ahead mid.ahead → Closes mid new between after
@@ -110,3 +111,26 @@ module _ (limits : Limits) where
       Breaks-after old mid new before between after took got ended h
   NextMoves-after old mid new before between after NoMemory took got ended h =
       Lacks-after old mid before between after took got h
+
+-- what is said after the bytes at hand didn't decide
+pub Waits-moves : (old mid new : Reading) (before after : Option (List ℕ)) (answer : NextLine)
+    → Waits old mid → NextMoves mid.limits mid new before after answer
+    → NextMoves old.limits old new before after answer
+Waits-moves old mid new before after answer waits moves =
+    subst (λ (most : Limits). NextMoves most old new before after answer) waits.limits
+    (NextMoves-after mid.limits old mid new before before after answer
+    (Took-same before old.ahead mid.ahead waits.ahead) waits.got waits.ended moves)
+
+-- there is no memory, after the bytes at hand didn't decide
+pub Waits-lacks : (old mid : Reading) (known : Option (List ℕ)) → Waits old mid
+    → Lacks old.limits old known known
+Waits-lacks old mid known waits =
+    let line = ap (λ (most : Limits). most.line) waits.limits in
+    let lines = ap (λ (most : Limits). most.lines) waits.limits in
+    record {
+      front = [];
+      taken = sym (prepend_known-nil known);
+      few = omega (arith, ap length waits.ahead, waits.few, line);
+      none_past = λ full. let none = waits.none_past (waits.got ∙ (full ∙ sym lines)) in
+          omega (arith, ap length waits.ahead, ap length none);
+    }

@@ -1,5 +1,5 @@
 -- What a replay answers and has written, once what was kept and the last text are.
-use Rattle.std.proofs.Common.{◌≡◌, ◌⊎◌, ℕ, List, [], ◌++◌, length, take, drop, Bool, true, false}
+use Rattle.std.proofs.Common.{◌≡◌, ◌⊎◌, ℕ, List, ◌++◌, length, take, drop, Bool, true, false}
 use Rattle.std.proofs.Common.{Some, None, inl, inr, refl, sym, ◌∙◌, ap, subst, append_assoc}
 use Rattle.std.proofs.lemmas.List.{append-nil, take-append-drop}
 use Rattle.std.proofs.Math.Seq.{take-append_seam}
@@ -8,11 +8,10 @@ use Rattle.std.specs.declared.option.Option.{Option}
 use Rattle.std.specs.Io.KnownBytes.{append_known}
 use Rattle.rv_base.proofs.Moved.{append_known-append}
 use Rattle.schedule_replay.specs.Play.{Play}
-use Rattle.schedule_replay.specs.Played.{Stop, Whole, AtLine, TooMany, Halted, Played, last_text}
-use Rattle.schedule_replay.specs.Played.{played, played_text, trace}
-use Rattle.schedule_replay.specs.Replayed.{answer_of, LeavesAt, Decides, blocks_taken, StopsSo}
-use Rattle.schedule_replay.specs.Replayed.{Wrote, WroteFront, WritesSo, RisesWhere, is_decided}
-use Rattle.schedule_replay.specs.Replayed.{is_read_fault, is_write_fault}
+use Rattle.schedule_replay.specs.Played.{Stop, AtEnd, AtLine, TooMany, Halted, last_text}
+use Rattle.schedule_replay.specs.Played.{played_text, trace}
+use Rattle.schedule_replay.specs.Replayed.{answer_of, blocks_taken}
+use Rattle.schedule_replay.specs.Replayed.{Wrote, WroteFront, WritesSo, is_decided}
 use Rattle.schedule_replay.specs.Turns.{PutsFront, last_of, EndsWith, Ending, Cut, PlaysLines}
 use Rattle.schedule_replay.specs.declared.limits.Limits.{Limits}
 use Rattle.schedule_replay.specs.declared.replaying.Replayed.{Replayed}
@@ -54,7 +53,7 @@ went-on refused old mid new (inr went) (inl then) = inr (ap refused then ∙ wen
 module _ {State Item : Type 0} (play : Play State Item) where
   last-of : (state : State) (stop : Stop) → last_of play state (answer_of stop)
       ≡ last_text play state stop
-  last-of state Whole = refl
+  last-of state AtEnd = refl
   last-of state (AtLine number) = refl
   last-of state TooMany = refl
   last-of state (Halted lines claim) = refl
@@ -75,7 +74,7 @@ module _ {State Item : Type 0} (play : Play State Item) where
     wrote-writes : (stop : Stop) (text : List ℕ) (left : Option (List ℕ)) (bytes : List ℕ)
         (now : Option (List ℕ)) → Wrote bytes (trace play limits start text) now
         → WritesSo play limits start text left bytes now (answer_of stop)
-    wrote-writes Whole text left bytes now wrote = wrote
+    wrote-writes AtEnd text left bytes now wrote = wrote
     wrote-writes (AtLine number) text left bytes now wrote = wrote
     wrote-writes TooMany text left bytes now wrote = wrote
     wrote-writes (Halted lines claim) text left bytes now wrote = wrote

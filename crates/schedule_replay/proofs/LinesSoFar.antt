@@ -115,7 +115,7 @@ module _ (limits : Limits) where
     pub short : length r.ahead ≤ 255
     pub size : length taken ≤ (limits.line + 1) * r.got + length r.ahead
 
-  pub Reads-start : (before : Option (List ℕ)) → Reads before before nothing_read []
+  pub Reads-start : (before : Option (List ℕ)) → Reads before before (nothing_read limits) []
   Reads-start before = record {
     taken = [];
     from = sym (prepend_known-nil before);

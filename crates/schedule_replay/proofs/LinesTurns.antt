@@ -2,7 +2,7 @@
 use Rattle.std.proofs.Common.{◌≡◌, ◌≢◌, ℕ, ◌+◌, ◌-◌, ◌<◌, ◌≤◌, List, [], ◌∷◌, ◌++◌, length, take}
 use Rattle.std.proofs.Common.{drop, get_or, Bool, true, false, Some, None, inl, inr, arith, refl}
 use Rattle.std.proofs.Common.{sym, ◌∙◌, ap, subst, append_assoc, add-one, drop-cons, length-take}
-use Rattle.std.proofs.Common.{length-drop, length-append, nat_lt}
+use Rattle.std.proofs.Common.{length-drop, length-append}
 use Rattle.std.proofs.lemmas.Bool.{cases_lt}
 use Rattle.std.proofs.lemmas.Grind.{common_steps}
 use Rattle.std.proofs.lemmas.List.{append-nil, get_or-take, take-append-drop, drop-take, drop-drop}
@@ -13,20 +13,19 @@ use Rattle.std.proofs.lemmas.List.Sums.{fails_before_first}
 use Rattle.std.specs.Prelude.{Result, Ok, Err, OnOk, is_err}
 use Rattle.std.specs.List.{position, position_or_len}
 use Rattle.std.specs.declared.option.Option.{Option}
-use Rattle.std.specs.Io.KnownBytes.{prepend_known, IsAtEnd}
+use Rattle.std.specs.Io.KnownBytes.{prepend_known}
 use Rattle.std.proofs.KnownBytes.{prepend_known-nil}
 use Rattle.schedule_replay.specs.Lines.{HasNoLf, is_lf}
 use Rattle.schedule_replay.specs.Reading.{Reading}
-use Rattle.schedule_replay.specs.NextLine.{Took, GetsLine, FindsEnd, FindsLong, FindsMany, Breaks}
-use Rattle.schedule_replay.specs.NextLine.{Lacks, NextMoves}
-use Rattle.schedule_replay.specs.AtHand.{pending, part_of, text_of, ahead_of, reading_of, SameCount}
-use Rattle.schedule_replay.specs.AtHand.{SamePending, Opens, Holds, Carries, HandMoves, SameLine}
-use Rattle.schedule_replay.specs.AtHand.{StepsOn, TurnMoves, TurnCounts}
+use Rattle.schedule_replay.specs.NextLine.{Took, GetsLine, FindsLong}
+use Rattle.schedule_replay.specs.NextLine.{Lacks, NextMoves, Waits, AtHandMoves}
+use Rattle.schedule_replay.specs.AtHand.{pending, part_of, ahead_of, reading_of, SameCount}
+use Rattle.schedule_replay.specs.AtHand.{Opens, Carries, HandMoves, SameLine}
+use Rattle.schedule_replay.specs.AtHand.{TurnMoves}
 use Rattle.schedule_replay.specs.declared.limits.Limits.{Limits}
-use Rattle.schedule_replay.specs.declared.lines.Lines.{Lines}
+use Rattle.schedule_replay.specs.declared.line_buffer.LineBuffer.{LineBuffer}
 use Rattle.schedule_replay.specs.declared.lines.NextLine.{NextLine}
-use Rattle.schedule_replay.specs.declared.lines.NextLine.TheVariants.{Got}
-use Rattle.schedule_replay.proofs.Taking.{Took-none, Took-behind}
+use Rattle.schedule_replay.proofs.Taking.{Took-none, Took-behind, Took-same}
 use Rattle.schedule_replay.proofs.Further.{NextMoves-after}
 
 -- the first LF of bytes
@@ -66,7 +65,7 @@ nothing-in [] none = refl
 nothing-in (b ∷ bs) none = absurd (omega (arith, none))
 
 -- how many bytes are pending
-pub pending-length : (l : Lines) → length (pending l) ≡ l.end - l.start
+pub pending-length : (l : LineBuffer) → length (pending l) ≡ l.end - l.start
 pending-length l = omega (
   arith,
   length-drop l.start (take l.end l.piece),
@@ -75,7 +74,7 @@ pending-length l = omega (
   l.room,
 )
 
-pub pending-none : (l : Lines) → l.start ≡ l.end → pending l ≡ []
+pub pending-none : (l : LineBuffer) → l.start ≡ l.end → pending l ≡ []
 pending-none l spent = nothing-in (pending l) (omega (arith, pending-length l, spent))
 
 -- a part of the piece
@@ -89,7 +88,7 @@ front-between piece start end k within =
     ∙ ap (λ n. drop start (take n piece)) same))
 
 -- the pending bytes, as a part of the piece
-pub slice-pending : (l : Lines) → take (l.end - l.start) (drop l.start l.piece) ≡ pending l
+pub slice-pending : (l : LineBuffer) → take (l.end - l.start) (drop l.start l.piece) ≡ pending l
 slice-pending l =
     let same : l.start + (l.end - l.start) ≡ l.end = omega (arith, l.in_order) in
     sym (drop-take l.start (l.end - l.start) l.piece) ∙ ap (λ n. drop l.start (take n l.piece)) same
@@ -100,7 +99,7 @@ rest-between piece start end k =
     let same : start + k + 1 ≡ start + (k + 1) = omega arith in
     ap (λ n. drop n (take end piece)) same ∙ sym (drop-drop (k + 1) start (take end piece))
 
-part-here : (l : Lines) → l.partial ≡ true → part_of l ≡ l.part.items
+part-here : (l : LineBuffer) → l.partial ≡ true → part_of l ≡ l.part.items
 part-here l partial = rw partial refl
 
 going-or : (ended : Bool) (start end : ℕ) → (ended ≡ true → start ≡ end) → start < end
@@ -108,10 +107,10 @@ going-or : (ended : Bool) (start end : ℕ) → (ended ≡ true → start ≡ en
 going-or true start end spent some = absurd (omega (arith, spent refl, some))
 going-or false start end spent some = refl
 
-pub going : (l : Lines) → l.start < l.end → l.ended ≡ false
+pub going : (l : LineBuffer) → l.start < l.end → l.ended ≡ false
 going l some = going-or l.ended l.start l.end l.none_pending some
 
-ahead-length : (l : Lines) → l.partial ≡ true → length (ahead_of l) ≡ length l.part.items +
+ahead-length : (l : LineBuffer) → l.partial ≡ true → length (ahead_of l) ≡ length l.part.items +
     (l.end - l.start)
 ahead-length l partial = omega (
   arith,
@@ -120,14 +119,14 @@ ahead-length l partial = omega (
   pending-length l,
 )
 
-ahead-fits : (l : Lines) → l.partial ≡ true → length (ahead_of l) ≤ l.limits.line + 256
+ahead-fits : (l : LineBuffer) → l.partial ≡ true → length (ahead_of l) ≤ l.limits.line + 256
 ahead-fits l partial = omega (arith, ahead-length l partial, l.fits partial, l.within)
 
-part-clean : (l : Lines) → l.partial ≡ true → HasNoLf (part_of l)
+part-clean : (l : LineBuffer) → l.partial ≡ true → HasNoLf (part_of l)
 part-clean l partial = subst HasNoLf (sym (part-here l partial)) (l.one_line partial)
 
 -- The bytes ahead begin with more than a line may have, and none of these is an LF.
-long : (l : Lines) (clean rest : List ℕ) (known : Option (List ℕ)) → l.partial ≡ true
+long : (l : LineBuffer) (clean rest : List ℕ) (known : Option (List ℕ)) → l.partial ≡ true
     → l.start < l.end → l.got < l.limits.lines → ahead_of l ≡ clean ++ rest → HasNoLf clean
     → l.limits.line < length clean
     → FindsLong l.limits (reading_of l) (reading_of l) known known (l.got + 1)
@@ -158,7 +157,7 @@ long l clean rest known partial some few ahead none more =
     }
 
 -- the line whose LF is pending is too long
-pub long-closed : (l : Lines) (k : ℕ) (known : Option (List ℕ)) → l.partial ≡ true
+pub long-closed : (l : LineBuffer) (k : ℕ) (known : Option (List ℕ)) → l.partial ≡ true
     → l.got < l.limits.lines → position is_lf (pending l) ≡ Some k
     → l.limits.line < length l.part.items + k
     → FindsLong l.limits (reading_of l) (reading_of l) known known (l.got + 1)
@@ -181,7 +180,7 @@ long-closed l k known partial few found more =
     ))
 
 -- the line at hand is too long
-pub long-open : (l : Lines) (known : Option (List ℕ)) → l.partial ≡ true → l.got < l.limits.lines
+pub long-open : (l : LineBuffer) (known : Option (List ℕ)) → l.partial ≡ true → l.got < l.limits.lines
     → l.start < l.end → position is_lf (pending l) ≡ None
     → l.limits.line < length l.part.items + (l.end - l.start)
     → FindsLong l.limits (reading_of l) (reading_of l) known known (l.got + 1)
@@ -192,7 +191,7 @@ long-open l known partial few some none more =
     (omega (arith, ahead-length l partial, more))
 
 -- there is no memory
-pub lacks : (l : Lines) (known : Option (List ℕ)) → l.partial ≡ true
+pub lacks : (l : LineBuffer) (known : Option (List ℕ)) → l.partial ≡ true
     → (l.got ≡ l.limits.lines → length (ahead_of l) ≤ 256)
     → Lacks l.limits (reading_of l) known known
 lacks l known partial none_past = record {
@@ -202,12 +201,12 @@ lacks l known partial none_past = record {
   none_past = λ full. let most = none_past full in omega (arith, most);
 }
 
-pub lacks-before : (l : Lines) (known : Option (List ℕ)) → l.partial ≡ true → l.got < l.limits.lines
+pub lacks-before : (l : LineBuffer) (known : Option (List ℕ)) → l.partial ≡ true → l.got < l.limits.lines
     → Lacks l.limits (reading_of l) known known
 lacks-before l known partial few = lacks l known partial (λ full. absurd (omega (arith, full, few)))
 
 -- the line whose LF is pending was got
-pub gets : (old : Lines) (new : Reading) (k : ℕ) (known : Option (List ℕ)) → old.partial ≡ true
+pub gets : (old : LineBuffer) (new : Reading) (k : ℕ) (known : Option (List ℕ)) → old.partial ≡ true
     → old.got < old.limits.lines → position is_lf (pending old) ≡ Some k
     → length old.part.items + k ≤ old.limits.line
     → new.text ≡ part_of old ++ drop old.start (take (old.start + k) old.piece)
@@ -257,17 +256,13 @@ gets old new k known partial few found fits text pend got ended =
     }
 
 -- the bytes ahead, once the last line got is let go
-pub opened-ahead : (old mid : Lines) → Opens old mid → ahead_of mid ≡ ahead_of old
+pub opened-ahead : (old mid : LineBuffer) → Opens old mid → ahead_of mid ≡ ahead_of old
 opened-ahead old mid opens = ap (λ part. part ++ pending mid) opens.part
     ∙ ap (λ bytes. part_of old ++ bytes) (rw (opens.same.piece, opens.same.start, opens.same.end)
     refl)
 
-same-took : (known : Option (List ℕ)) (old new : List ℕ) → new ≡ old → Took known known old new
-same-took known old new same = subst (λ (bytes : List ℕ). Took known known old bytes) (sym same)
-    (Took-none known known old refl)
-
 -- what is said later
-pub later-moves : (old mid new : Lines) (before between after : Option (List ℕ)) (answer : NextLine)
+pub later-moves : (old mid new : LineBuffer) (before between after : Option (List ℕ)) (answer : NextLine)
     → Took before between (ahead_of old) (ahead_of mid) → SameCount old mid
     → NextMoves mid.limits (reading_of mid) (reading_of new) between after answer
     → NextMoves old.limits (reading_of old) (reading_of new) before after answer
@@ -278,14 +273,14 @@ later-moves old mid new before between after answer took count moves =
     before between after answer took count.got count.ended moves)
 
 -- what is said after the last line got was let go
-pub opened-hand : (old mid new : Lines) (answer : Option NextLine) → Opens old mid
+pub opened-hand : (old mid new : LineBuffer) (answer : Option NextLine) → Opens old mid
     → HandMoves mid new answer → HandMoves old new answer
 opened-hand old mid new (Some answer) opens (quiet, limits, ended, moves) = (
   quiet,
   limits ∙ opens.count.limits,
   ended ∙ opens.count.ended,
   λ known. later-moves old mid new known known known answer
-      (same-took known (ahead_of old) (ahead_of mid) (opened-ahead old mid opens)) opens.count
+      (Took-same known (ahead_of old) (ahead_of mid) (opened-ahead old mid opens)) opens.count
       (moves known),
 )
 opened-hand old mid new None opens carries = record {
@@ -300,11 +295,11 @@ opened-hand old mid new None opens carries = record {
 }
 
 -- nothing is ahead but a part of a line
-pub spent-ahead : (l : Lines) → l.start ≡ l.end → ahead_of l ≡ part_of l
+pub spent-ahead : (l : LineBuffer) → l.start ≡ l.end → ahead_of l ≡ part_of l
 spent-ahead l spent = ap (λ bytes. part_of l ++ bytes) (pending-none l spent)
     ∙ append-nil (part_of l)
 
-pub below-limit : (l : Lines) → l.partial ≡ true → 0 < length l.part.items
+pub below-limit : (l : LineBuffer) → l.partial ≡ true → 0 < length l.part.items
     → l.got + 1 ≤ l.limits.lines
 below-limit l partial some = elim (cases_lt l.got l.limits.lines) [
   | inl low ↦ omega (arith, low)
@@ -312,11 +307,11 @@ below-limit l partial some = elim (cases_lt l.got l.limits.lines) [
       absurd (omega (arith, ap length (l.none_past partial full), some))
 ]
 
-same-part : (old mid : Lines) → SameLine old mid → old.start ≡ old.end → ahead_of old ≡ part_of mid
+same-part : (old mid : LineBuffer) → SameLine old mid → old.start ≡ old.end → ahead_of old ≡ part_of mid
 same-part old mid same spent = spent-ahead old spent ∙ sym same.part
 
 -- bytes were taken
-pub filled : (old mid : Lines) (before after : Option (List ℕ)) → SameLine old mid
+pub filled : (old mid : LineBuffer) (before after : Option (List ℕ)) → SameLine old mid
     → old.start ≡ old.end → Took before after [] (pending mid)
     → Took before after (ahead_of old) (ahead_of mid)
 filled old mid before after same spent took =
@@ -324,7 +319,7 @@ filled old mid before after same spent took =
     subst (λ (bytes : List ℕ). Took before after bytes (ahead_of mid)) (append-nil (part_of mid)
     ∙ sym (same-part old mid same spent)) behind
 
-longer : (old mid : Lines) → SameLine old mid → old.start ≡ old.end → mid.start < mid.end
+longer : (old mid : LineBuffer) → SameLine old mid → old.start ≡ old.end → mid.start < mid.end
     → length (ahead_of old) < length (ahead_of mid)
 longer old mid same spent some =
     omega (
@@ -336,7 +331,7 @@ longer old mid same spent some =
     )
 
 -- what is said after a read
-pub then-moves : (old mid new : Lines) (before after : Option (List ℕ)) (answer : Option NextLine)
+pub then-moves : (old mid new : LineBuffer) (before after : Option (List ℕ)) (answer : Option NextLine)
     → SameLine old mid → old.start ≡ old.end → mid.start < mid.end
     → Took before after [] (pending mid) → HandMoves mid new answer
     → TurnMoves old new before after answer
@@ -361,7 +356,7 @@ then-moves old mid new before after None same spent some took carries = record {
 }
 
 -- the source had no memory
-pub then-lacks : (old mid : Lines) (before after : Option (List ℕ)) → SameLine old mid
+pub then-lacks : (old mid : LineBuffer) (before after : Option (List ℕ)) → SameLine old mid
     → old.start ≡ old.end → old.partial ≡ true → after ≡ before
     → Lacks old.limits (reading_of old) before after
 then-lacks old mid before after same spent partial stays =
@@ -375,16 +370,29 @@ then-lacks old mid before after same spent partial stays =
           (arith, ap length ahead, ap length (part-here old partial), none);
     }
 
--- what is said after the bytes at hand were kept
-pub carried-moves : (old mid new : Lines) (before after : Option (List ℕ)) (answer : NextLine)
-    → Carries old mid → NextMoves mid.limits (reading_of mid) (reading_of new) before after answer
-    → NextMoves old.limits (reading_of old) (reading_of new) before after answer
-carried-moves old mid new before after answer carries moves =
-    later-moves old mid new before before after answer
-    (same-took before (ahead_of old) (ahead_of mid) carries.ahead) carries.count moves
+-- the bytes at hand were kept, as contracts see it
+pub Carries-waits : (old new : LineBuffer) → Carries old new → Waits (reading_of old) (reading_of new)
+Carries-waits old new carries =
+    let ahead : ahead_of new ≡ new.part.items = spent-ahead new carries.spent
+    ∙ part-here new carries.partial in
+    record {
+      limits = carries.count.limits;
+      got = carries.count.got;
+      ended = carries.count.ended;
+      ahead = carries.ahead;
+      one_line = subst HasNoLf (sym ahead) (new.one_line carries.partial);
+      few = omega (arith, ap length ahead, new.fits carries.partial);
+      none_past = λ full. ahead ∙ new.none_past carries.partial full;
+    }
+
+-- what the bytes at hand decide, as contracts see it
+pub hand-moves : (old new : LineBuffer) (answer : Option NextLine) → HandMoves old new answer
+    → AtHandMoves (reading_of old) (reading_of new) answer
+hand-moves old new (Some answer) moves = moves
+hand-moves old new None carries = Carries-waits old new carries
 
 -- the bytes that are kept hold no LF
-pub kept-clean : (l : Lines) → l.partial ≡ true → position is_lf (pending l) ≡ None
+pub kept-clean : (l : LineBuffer) → l.partial ≡ true → position is_lf (pending l) ≡ None
     → HasNoLf (l.part.items ++ pending l)
 kept-clean l partial none = All-append (λ b. b ≢ 10) l.part.items (pending l) (l.one_line partial)
     (no-lf-inside (pending l) none)

@@ -1,5 +1,5 @@
 -- The lines read so far were played, and their blocks are written or kept.
-use Rattle.std.proofs.Common.{◌≡◌, ℕ, ◌+◌, ◌<◌, ◌≤◌, List, [], ◌∷◌, ◌++◌, length, take, drop, Bool}
+use Rattle.std.proofs.Common.{◌≡◌, ℕ, ◌+◌, ◌<◌, ◌≤◌, List, [], ◌∷◌, ◌++◌, length, take, drop}
 use Rattle.std.proofs.Common.{true, false, nat_le, nat_lt, Some, None, inl, inr, arith, refl, sym}
 use Rattle.std.proofs.Common.{◌∙◌, ap, append_assoc, length-append}
 use Rattle.std.proofs.lemmas.Grind.{common_steps}
@@ -9,9 +9,9 @@ use Rattle.std.specs.Io.KnownBytes.{append_known}
 use Rattle.rv_base.proofs.Moved.{append_known-append}
 use Rattle.schedule_replay.specs.Lines.{lines_of}
 use Rattle.schedule_replay.specs.Play.{Play}
-use Rattle.schedule_replay.specs.Played.{Stop, Whole, AtLine, TooMany, Halted, Played, stopped}
+use Rattle.schedule_replay.specs.Played.{Stop, AtEnd, AtLine, TooMany, Halted, Played, stopped}
 use Rattle.schedule_replay.specs.Played.{behind, unless_halted, numbered_block, line_then}
-use Rattle.schedule_replay.specs.Played.{last_text, played_lines, played_from, played, played_text}
+use Rattle.schedule_replay.specs.Played.{last_text, played_lines, played_from, played_text}
 use Rattle.schedule_replay.specs.Played.{trace}
 use Rattle.schedule_replay.specs.Turns.{PutsFront, Moved, Cut}
 use Rattle.schedule_replay.specs.declared.limits.Limits.{Limits}
@@ -220,7 +220,7 @@ module _ {State Item : Type 0} (play : Play State Item) (limits : Limits) (start
   -- no further line
   pub Ends-whole : (before now : Option (List ℕ)) (kept : List ℕ) (state : State) (count : ℕ)
       (done : List (List ℕ)) → Plays before now kept state count done
-      → Ends before now kept state done Whole
+      → Ends before now kept state done AtEnd
   Ends-whole before now kept state count done h = record {
     gone = h.gone;
     written = h.written;

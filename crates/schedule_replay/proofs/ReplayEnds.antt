@@ -1,6 +1,6 @@
 -- How each answer of the loop that replays a schedule comes about.
-use Rattle.std.proofs.Common.{◌≡◌, ℕ, suc, ◌+◌, ◌<◌, ◌≤◌, List, [], ◌∷◌, ◌++◌, length, take, Bool}
-use Rattle.std.proofs.Common.{true, false, Some, None, inl, inr, arith, refl, sym, ◌∙◌, ap, subst}
+use Rattle.std.proofs.Common.{◌≡◌, ℕ, suc, ◌+◌, ◌<◌, ◌≤◌, List, [], ◌∷◌, ◌++◌, length}
+use Rattle.std.proofs.Common.{Some, None, inl, inr, arith, refl, sym, ◌∙◌, ap, subst}
 use Rattle.std.proofs.Common.{append_assoc}
 use Rattle.std.proofs.lemmas.List.{append-nil}
 use Rattle.std.specs.Prelude.{IfSome}
@@ -8,24 +8,23 @@ use Rattle.std.specs.declared.option.Option.{Option}
 use Rattle.std.specs.Io.KnownBytes.{append_known}
 use Rattle.rv_base.specs.Whole.{TakesAtMost}
 use Rattle.schedule_replay.specs.Limits.{most_taken}
-use Rattle.schedule_replay.specs.Lines.{lines_of, HasNoLf, closed_lines, open_part, joined}
+use Rattle.schedule_replay.specs.Lines.{lines_of, closed_lines, open_part, joined}
 use Rattle.schedule_replay.specs.Reading.{Reading}
 use Rattle.schedule_replay.specs.NextLine.{GetsLine, FindsEnd, FindsLong, FindsMany, Breaks}
 use Rattle.schedule_replay.specs.Play.{Play}
-use Rattle.schedule_replay.specs.Played.{Stop, Whole, AtLine, TooMany, Halted, Played, played_from}
-use Rattle.schedule_replay.specs.Replayed.{answer_of, LeavesAt, TakesFew, line_decides, BreaksOff}
-use Rattle.schedule_replay.specs.Replayed.{blocks_taken, NothingStops, is_read_fault}
-use Rattle.schedule_replay.specs.Replayed.{is_write_fault}
+use Rattle.schedule_replay.specs.Played.{Stop, AtLine, Halted, Played, played_from}
+use Rattle.schedule_replay.specs.Replayed.{answer_of, LeavesAt}
+use Rattle.schedule_replay.specs.Replayed.{blocks_taken}
 use Rattle.schedule_replay.specs.Turns.{PutsFront, AskEnds, AskKeeps, GoesOn, LineEnds, Ending, Cut}
 use Rattle.schedule_replay.specs.Turns.{PlaysLines, PlaysItem}
 use Rattle.schedule_replay.specs.declared.limits.Limits.{Limits}
-use Rattle.schedule_replay.specs.declared.player.Meaning.TheVariants.{Says, Bad}
+use Rattle.schedule_replay.specs.declared.player.Meaning.TheVariants.{Bad}
 use Rattle.schedule_replay.specs.declared.replaying.Replayed.{Replayed}
 use Rattle.schedule_replay.specs.declared.replaying.Replayed.TheVariants.{Done, BadLine}
 use Rattle.schedule_replay.specs.declared.replaying.Replayed.TheVariants.{TooManyLines, ClaimBroken}
 use Rattle.schedule_replay.specs.declared.replaying.Replayed.TheVariants.{ReadFault, WriteFault}
 use Rattle.schedule_replay.specs.declared.replaying.Replayed.TheVariants.{NoMemory}
-use Rattle.schedule_replay.proofs.ClosedLines.{EachLine, closed_lines-joined, open_part-joined}
+use Rattle.schedule_replay.proofs.ClosedLines.{closed_lines-joined, open_part-joined}
 use Rattle.schedule_replay.proofs.LinesSoFar.{Reads, Reads-more, Reads-front, Reads-refused}
 use Rattle.schedule_replay.proofs.LinesSoFar.{Reads-end, Reads-long, Reads-many, Reads-broken}
 use Rattle.schedule_replay.proofs.LinesSoFar.{Reads-few, long-few, many-few, broken-few, lacks-few}

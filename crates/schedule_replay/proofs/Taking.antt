@@ -1,9 +1,7 @@
 -- Bytes that are taken from a source, and stand after those that were at hand.
-use Rattle.std.proofs.Common.{◌≡◌, ℕ, ◌+◌, ◌<◌, ◌≤◌, List, [], ◌∷◌, ◌++◌, length, take, drop}
-use Rattle.std.proofs.Common.{get_or, None, Some, arith, refl, sym, ◌∙◌, ap, subst, append_assoc}
-use Rattle.std.proofs.Common.{add-one, drop-cons, length-take}
-use Rattle.std.proofs.lemmas.List.{append-nil, get_or-take}
-use Rattle.std.specs.Prelude.{IsNone}
+use Rattle.std.proofs.Common.{◌≡◌, ℕ, List, [], ◌∷◌, ◌++◌}
+use Rattle.std.proofs.Common.{refl, sym, ◌∙◌, ap, subst, append_assoc}
+use Rattle.std.proofs.lemmas.List.{append-nil}
 use Rattle.std.specs.declared.option.Option.{Option}
 use Rattle.std.specs.Io.KnownBytes.{prepend_known}
 use Rattle.std.proofs.KnownBytes.{prepend_known-nil}
@@ -29,6 +27,11 @@ Took-none before after old stays = record {
   taken = sym (prepend_known-nil before) ∙ ap (prepend_known []) (sym stays);
   same = append-nil old;
 }
+
+-- no bytes, where those at hand stay
+pub Took-same : (known : Option (List ℕ)) (old new : List ℕ) → new ≡ old → Took known known old new
+Took-same known old new same = subst (λ (bytes : List ℕ). Took known known old bytes) (sym same)
+    (Took-none known known old refl)
 
 -- behind further bytes
 pub Took-behind : (before after : Option (List ℕ)) (more old new : List ℕ)

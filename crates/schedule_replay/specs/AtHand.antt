@@ -1,36 +1,39 @@
--- What a reader of lines holds, and what its steps do to it.
-use Rattle.std.specs.Prelude.{◌≡◌, ◌<◌, ℕ, List, [], ◌++◌, length, take, drop, if◌then◌else◌, ◌⊎◌}
+-- What a reader of lines holds of its source, and what its steps do to it.
+use Rattle.std.specs.Prelude.{◌≡◌, ◌<◌, ℕ, List, [], ◌++◌, length, take, drop, if◌then◌else◌}
 use Rattle.std.specs.Prelude.{Bool, true, false, Some, None}
 use Rattle.std.specs.declared.option.Option.{Option}
 use Rattle.std.specs.Io.KnownBytes.{IsAtEnd}
-use Rattle.rv_base.specs.Outside.{Rose}
+use Rattle.rv_base.specs.Outside.{RisesWhere}
 use Rattle.schedule_replay.specs.Reading.{Reading}
-use Rattle.schedule_replay.specs.NextLine.{Took, NextMoves, is_fault}
-use Rattle.schedule_replay.specs.Replayed.{RisesWhere}
-use Rattle.schedule_replay.specs.declared.lines.Lines.{Lines}
-use Rattle.schedule_replay.specs.declared.lines.Filled.{Filled}
-use Rattle.schedule_replay.specs.declared.lines.Filled.TheVariants.{Ready, End, Failed, NoMemory}
+use Rattle.schedule_replay.specs.NextLine.{Took, NextMoves, is_fault, is_well}
+use Rattle.schedule_replay.specs.declared.line_buffer.LineBuffer.{LineBuffer}
+use Rattle.schedule_replay.specs.declared.line_buffer.Filled.{Filled}
+use Rattle.schedule_replay.specs.declared.line_buffer.Filled.TheVariants.{Ready, End, Failed}
+use Rattle.schedule_replay.specs.declared.line_buffer.Filled.TheVariants.{NoMemory}
 use Rattle.schedule_replay.specs.declared.lines.NextLine.{NextLine}
 
 -- The bytes of the piece that are not worked off.
-abbrev pub pending : Lines → List ℕ
+abbrev pub pending : LineBuffer → List ℕ
 pending lines = drop lines.start (take lines.end lines.piece)
 
 -- The bytes of earlier pieces that belong to a line that is not got yet.
-abbrev pub part_of : Lines → List ℕ
+abbrev pub part_of : LineBuffer → List ℕ
 part_of lines = if lines.partial then lines.part.items else []
 
 -- The last line got.
-abbrev pub text_of : Lines → List ℕ
+abbrev pub text_of : LineBuffer → List ℕ
 text_of lines =
     if lines.partial then []
     else (if lines.joined then lines.part.items else drop lines.from (take lines.to lines.piece))
 
-abbrev pub ahead_of : Lines → List ℕ
+-- The bytes that were taken past the last line got.
+abbrev pub ahead_of : LineBuffer → List ℕ
 ahead_of lines = part_of lines ++ pending lines
 
-abbrev pub reading_of : Lines → Reading
+-- How far the source was read.
+abbrev pub reading_of : LineBuffer → Reading
 reading_of lines = record {
+  limits = lines.limits;
   got = lines.got;
   ahead = ahead_of lines;
   ended = lines.ended;
@@ -38,32 +41,32 @@ reading_of lines = record {
 }
 
 -- What was read and how far stays.
-pub record SameCount (old new : Lines) : Type 0 where
+pub record SameCount (old new : LineBuffer) : Type 0 where
   pub limits : new.limits ≡ old.limits
   pub got : new.got ≡ old.got
   pub ended : new.ended ≡ old.ended
 
 -- The pending bytes stay.
-pub record SamePending (old new : Lines) : Type 0 where
+pub record SamePending (old new : LineBuffer) : Type 0 where
   pub piece : new.piece ≡ old.piece
   pub start : new.start ≡ old.start
   pub end : new.end ≡ old.end
 
 -- The last line got is let go.
-pub record Opens (old new : Lines) : Type 0 where
+pub record Opens (old new : LineBuffer) : Type 0 where
   pub count : SameCount old new
   pub same : SamePending old new
   pub partial : new.partial ≡ true
   pub part : part_of new ≡ part_of old
 
 -- The line at hand is held: the bytes of earlier pieces, and those of this piece up to a place.
-pub record Holds (old new : Lines) (end : ℕ) : Type 0 where
+pub record Holds (old new : LineBuffer) (end : ℕ) : Type 0 where
   pub same : SamePending old new
   pub partial : new.partial ≡ false
   pub text : text_of new ≡ part_of old ++ drop old.start (take end old.piece)
 
 -- All bytes taken past the last line got are kept, and no byte is pending.
-pub record Carries (old new : Lines) : Type 0 where
+pub record Carries (old new : LineBuffer) : Type 0 where
   pub count : SameCount old new
   pub partial : new.partial ≡ true
   pub spent : new.start ≡ new.end
@@ -71,7 +74,7 @@ pub record Carries (old new : Lines) : Type 0 where
 
 -- The next line, or what says that there is none, of the bytes at hand, whatever is left in the
 -- source; or these don't decide, and are kept.
-abbrev pub HandMoves : Lines → Lines → Option NextLine → Type 0
+abbrev pub HandMoves : LineBuffer → LineBuffer → Option NextLine → Type 0
 HandMoves old new (Some answer) =
     (is_fault answer ≡ false) × (new.limits ≡ old.limits) × (new.ended ≡ old.ended)
     × ((known : Option (List ℕ))
@@ -79,13 +82,13 @@ HandMoves old new (Some answer) =
 HandMoves old new None = Carries old new
 
 -- All but the piece is as it was.
-pub record SameLine (old new : Lines) : Type 0 where
+pub record SameLine (old new : LineBuffer) : Type 0 where
   pub count : SameCount old new
   pub partial : new.partial ≡ true
   pub part : part_of new ≡ part_of old
 
 -- A read: bytes of it are pending, or the source gave none.
-abbrev pub FillMoves : Lines → Lines → Option (List ℕ) → Option (List ℕ) → Filled → Type 0
+abbrev pub FillMoves : LineBuffer → LineBuffer → Option (List ℕ) → Option (List ℕ) → Filled → Type 0
 FillMoves old new before after Ready = (new.start < new.end) × Took before after [] (pending new)
 FillMoves old new before after End =
     (new.start ≡ new.end) × (after ≡ before) × IsAtEnd before
@@ -106,8 +109,15 @@ is_end End = true
 is_end Failed = false
 is_end NoMemory = false
 
+-- whether the source failed or had no memory
+abbrev pub is_refused : Filled → Bool
+is_refused Ready = false
+is_refused End = false
+is_refused Failed = true
+is_refused NoMemory = true
+
 -- More bytes were taken, and they don't decide.
-pub record StepsOn (old new : Lines) (before after : Option (List ℕ)) : Type 0 where
+pub record StepsOn (old new : LineBuffer) (before after : Option (List ℕ)) : Type 0 where
   pub count : SameCount old new
   pub partial : new.partial ≡ true
   pub spent : new.start ≡ new.end
@@ -115,12 +125,19 @@ pub record StepsOn (old new : Lines) (before after : Option (List ℕ)) : Type 0
   pub longer : length (ahead_of old) < length (ahead_of new)
 
 -- A read, and what it decides.
-abbrev pub TurnMoves : Lines → Lines → Option (List ℕ) → Option (List ℕ) → Option NextLine → Type 0
+abbrev pub TurnMoves : LineBuffer → LineBuffer → Option (List ℕ) → Option (List ℕ)
+    → Option NextLine → Type 0
 TurnMoves old new before after (Some answer) =
     (new.limits ≡ old.limits)
     × NextMoves old.limits (reading_of old) (reading_of new) before after answer
 TurnMoves old new before after None = StepsOn old new before after
 
+-- The count of faults before and after: it rose where the read failed.
 abbrev pub TurnCounts : ℕ → ℕ → Option NextLine → Type 0
 TurnCounts before now (Some answer) = RisesWhere (is_fault answer) before now
 TurnCounts before now None = now ≡ before
+
+-- No read failed, and memory didn't lack.
+abbrev pub turns_well : Option NextLine → Bool
+turns_well (Some answer) = is_well answer
+turns_well None = true

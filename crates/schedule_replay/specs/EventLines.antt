@@ -1,5 +1,6 @@
 -- What a line of a schedule of events says.
-use Rattle.std.specs.Prelude.{◌≡◌, ◌≢◌, ℕ, List, [], ◌∷◌, Option, Some, None, if◌then◌else◌, bytes_eq, codes}
+use Rattle.std.specs.Prelude.{◌≡◌, ◌≢◌, ℕ, List, [], ◌∷◌, Option, Some, None, if◌then◌else◌}
+use Rattle.std.specs.Prelude.{bytes_eq, codes}
 use Rattle.std.specs.Option.{option_map, option_and_then}
 use Rattle.rv_base.specs.Words.{words}
 use Rattle.rv_base.specs.Numbers.{number_of}
@@ -24,45 +25,51 @@ Says ws line.Blank = ws ≡ []
 Says ws (line.Event e) = (ws ≡ event_words e) × HasNumbers e
 Says ws line.Bad = (ws ≢ []) × ((e : Event) → HasNumbers e → ws ≢ event_words e)
 
--- the number that the word writes
+-- The number from 0 to 99,999 whose decimal text the word is.
 abbrev pub number : Text → Option ℕ
 number word = number_of word 99999
 
--- `tau` and these two words
+-- The event of `tau` and these two words: the home, or the remote with this number, takes the local
+-- step of the rule with this number.
 abbrev pub tau_event : Text → Text → Option Event
 tau_event who g =
     if bytes_eq who (codes "home")
     then option_map (λ rule. event.TauHome rule) (number g)
     else option_and_then (λ j. option_map (λ rule. event.TauRemote j rule) (number g)) (number who)
 
--- the event of this name, in which the home and a remote meet
+-- The event of this name, `up` or `down`, in which these two rules of the home and of this remote meet.
 abbrev pub meeting : Text → ℕ → ℕ → ℕ → Option Event
 meeting name j h r =
-    if bytes_eq name (codes "up") then Some (event.Up j h r) else (if bytes_eq name (codes "down") then Some (event.Down j h r) else None)
+    if bytes_eq name (codes "up") then Some (event.Up j h r)
+    else (if bytes_eq name (codes "down") then Some (event.Down j h r) else None)
 
--- `up` or `down`, with these three words
+-- The event of `up` or `down` and these three words: the numbers of the remote, of the home's rule
+-- and of the remote's.
 abbrev pub meeting_event : Text → Text → Text → Text → Option Event
 meeting_event name j h r =
-    option_and_then (λ remote. option_and_then (λ home_rule. option_and_then (λ remote_rule. meeting name remote home_rule remote_rule) (number r)) (number h)) (number j)
+    option_and_then (λ remote. option_and_then (λ home_rule. option_and_then (λ remote_rule.
+    meeting name remote home_rule remote_rule) (number r)) (number h)) (number j)
 
--- the event that the words say
+-- The event that the words of a line say, if they say one.
 abbrev pub event_of : List Text → Option Event
 event_of [] = None
 event_of (name ∷ []) = None
 event_of (name ∷ second ∷ []) = None
-event_of (name ∷ second ∷ third ∷ []) = if bytes_eq name (codes "tau") then tau_event second third else None
+event_of (name ∷ second ∷ third ∷ []) =
+    if bytes_eq name (codes "tau") then tau_event second third else None
 event_of (name ∷ second ∷ third ∷ fourth ∷ []) = meeting_event name second third fourth
 event_of (name ∷ second ∷ third ∷ fourth ∷ w ∷ ws) = None
 
--- the words say this event, or are malformed
+-- What a line with words says: this event, or it is malformed.
 abbrev pub said : Option Event → EventLine
 said (Some e) = line.Event e
 said None = line.Bad
 
+-- What a line says, by its words.
 abbrev pub line_of_words : List Text → EventLine
 line_of_words [] = line.Blank
 line_of_words (w ∷ ws) = said (event_of (w ∷ ws))
 
--- what the line says, computed
+-- What the line says, computed.
 abbrev pub event_line : List ℕ → EventLine
 event_line bytes = line_of_words (words bytes)

@@ -23,6 +23,7 @@ abbrev pub closed_lines : List ℕ → List (List ℕ)
 closed_lines [] = []
 closed_lines (b ∷ bs) = if b == 10 then [] ∷ closed_lines bs else into_line b (closed_lines bs)
 
+-- The byte is an LF.
 abbrev pub is_lf : ℕ → Bool
 is_lf b = b == 10
 

@@ -1,6 +1,6 @@
 -- What asking for the next line answers, and what it does to the reading and to its source.
 use Rattle.std.specs.Prelude.{◌≡◌, ◌⊎◌, ℕ, ◌+◌, ◌<◌, ◌≤◌, List, [], ◌∷◌, ◌++◌, length, Bool, true}
-use Rattle.std.specs.Prelude.{false}
+use Rattle.std.specs.Prelude.{false, Some, None}
 use Rattle.std.specs.declared.option.Option.{Option}
 use Rattle.std.specs.Io.KnownBytes.{prepend_known, IsAtEnd}
 use Rattle.schedule_replay.specs.Lines.{HasNoLf}
@@ -110,3 +110,32 @@ is_fault (TooLong number) = false
 is_fault TooMany = false
 is_fault ReadFault = true
 is_fault NoMemory = false
+
+-- No read failed, and memory didn't lack.
+abbrev pub is_well : NextLine → Bool
+is_well (Got number) = true
+is_well End = true
+is_well (TooLong number) = true
+is_well TooMany = true
+is_well ReadFault = false
+is_well NoMemory = false
+
+-- The bytes taken so far don't decide what comes next, and are kept: they hold no LF, and are no
+-- more than a line may have. Where as many lines as there may be were got, there are none.
+pub record Waits (old new : Reading) : Type 0 where
+  pub limits : new.limits ≡ old.limits
+  pub got : new.got ≡ old.got
+  pub ended : new.ended ≡ old.ended
+  pub ahead : new.ahead ≡ old.ahead
+  pub one_line : HasNoLf new.ahead
+  pub few : length new.ahead ≤ new.limits.line
+  pub none_past : new.got ≡ new.limits.lines → new.ahead ≡ []
+
+-- The reading before and after a call that takes nothing of the source: the next line, or what says
+-- that there is none, of the bytes taken so far, whatever is left in the source; or these don't
+-- decide.
+abbrev pub AtHandMoves : Reading → Reading → Option NextLine → Type 0
+AtHandMoves old new (Some answer) =
+    (is_fault answer ≡ false) × (new.limits ≡ old.limits) × (new.ended ≡ old.ended)
+    × ((known : Option (List ℕ)) → NextMoves old.limits old new known known answer)
+AtHandMoves old new None = Waits old new

@@ -11,7 +11,7 @@ use Rattle.schedule_replay.specs.declared.player.Meaning.TheVariants.{Blank, Say
 -- the first byte past as many lines as a schedule may have; or where the machine halts, after so
 -- many lines, 0 before the first, with the number of the claim that is broken.
 pub data Stop : Type 0 where
-  Whole : Stop
+  AtEnd : Stop
   AtLine : ℕ → Stop
   TooMany : Stop
   Halted : ℕ → ℕ → Stop
@@ -69,17 +69,18 @@ module _ {State Item : Type 0} (play : Play State Item) where
   -- What is written where a schedule ends so: the last text where it was played to its end, and
   -- where the machine halts a line before it that names the claim.
   abbrev pub last_text : State → Stop → List ℕ
-  last_text state Whole = play.ending state
+  last_text state AtEnd = play.ending state
   last_text state (AtLine line) = []
   last_text state TooMany = []
   last_text state (Halted lines claim) = claim_text claim ++ play.ending state
 
-  -- The lines that follow so many others and so many items are played from this state. A schedule
-  -- ends with too many lines where as many as it may have stand before a further one. It is refused
-  -- at a line that is too long and at a malformed one. A blank line gives nothing.
   module _ (limits : Limits) where
+    -- The lines that follow so many others and so many items are played from this state. A schedule
+    -- ends with too many lines where as many as it may have stand before a further one. It is
+    -- refused at a line that is too long and at a malformed one. A blank line gives nothing. After
+    -- an item at which the machine halts no further line is played.
     abbrev pub played_lines : ℕ → ℕ → State → List (List ℕ) → Played State
-    played_lines before played state [] = stopped state Whole
+    played_lines before played state [] = stopped state AtEnd
     played_lines before played state (line ∷ lines) =
         line_then (nat_le limits.lines before) (nat_lt limits.line (length line))
         (play.says line) before played state
@@ -96,8 +97,10 @@ module _ {State Item : Type 0} (play : Play State Item) where
     abbrev pub played_text : Played State → List ℕ
     played_text all = all.blocks ++ last_text all.state all.stop
 
+    -- A schedule with this text is played from the start.
     abbrev pub played : State → List ℕ → Played State
     played start text = played_from start (lines_of text)
 
+    -- What is written of a schedule with this text.
     abbrev pub trace : State → List ℕ → List ℕ
     trace start text = played_text (played start text)

@@ -1,7 +1,11 @@
 -- How far a source's lines were read.
 use Rattle.std.specs.Prelude.{ℕ, List, [], Bool, false}
+use Rattle.schedule_replay.specs.declared.limits.Limits.{Limits}
 
+-- what contracts see of a reader of lines
 pub record Reading : Type 0 where
+  -- how long a line may be, and how many lines there may be
+  pub limits : Limits
   -- how many lines were got
   pub got : ℕ
   -- the bytes that were taken from the source past the last line got
@@ -12,5 +16,5 @@ pub record Reading : Type 0 where
   pub text : List ℕ
 
 -- No line was asked for yet.
-abbrev pub nothing_read : Reading
-nothing_read = record { got = 0; ahead = []; ended = false; text = [] }
+abbrev pub nothing_read : Limits → Reading
+nothing_read limits = record { limits = limits; got = 0; ahead = []; ended = false; text = [] }

@@ -2,10 +2,10 @@
 use Rattle.std.specs.Prelude.{◌≡◌, ◌≤◌, ◌<◌, ℕ, ◌+◌, ◌-◌, zero, suc, min, Bool, true, false, List}
 use Rattle.std.specs.Prelude.{[], ◌++◌, length, take, Some, get_or}
 use Rattle.std.specs.declared.option.Option.{Option}
-use Rattle.rv_base.specs.Outside.{Rose}
+use Rattle.rv_base.specs.Outside.{RisesWhere}
 use Rattle.schedule_replay.specs.Lines.{lines_of, closed_lines, open_part, joined}
 use Rattle.schedule_replay.specs.Play.{Play}
-use Rattle.schedule_replay.specs.Played.{Stop, Whole, AtLine, TooMany, Halted, played, played_from}
+use Rattle.schedule_replay.specs.Played.{Stop, AtEnd, AtLine, TooMany, Halted, played, played_from}
 use Rattle.schedule_replay.specs.Played.{trace}
 use Rattle.schedule_replay.specs.declared.limits.Limits.{Limits}
 use Rattle.schedule_replay.specs.declared.replaying.Replayed.{Replayed}
@@ -16,15 +16,16 @@ use Rattle.schedule_replay.specs.declared.replaying.Replayed.TheVariants.{NoMemo
 
 -- The answer of a replay that comes to where the schedule ends.
 abbrev pub answer_of : Stop → Replayed
-answer_of Whole = Done
+answer_of AtEnd = Done
 answer_of (AtLine number) = BadLine number
 answer_of TooMany = TooManyLines
 answer_of (Halted lines claim) = ClaimBroken claim
 
--- What follows the text that was written before.
+-- The text follows what was written before.
 abbrev pub Wrote : List ℕ → List ℕ → Option (List ℕ) → Type 0
 Wrote before text now = now ≡ Some (before ++ text)
 
+-- A front of the text follows what was written before.
 abbrev pub WroteFront : List ℕ → List ℕ → Option (List ℕ) → Type 0
 WroteFront before text now = (count : ℕ) × Wrote before (take count text) now
 
@@ -52,7 +53,7 @@ module _ (limits : Limits) where
   -- one were taken where a line is refused, or is one too many, or where the machine halts after a
   -- line; none was taken where it halts before the first.
   abbrev pub LeavesAt : Stop → List ℕ → Option (List ℕ) → Type 0
-  LeavesAt Whole text left = left ≡ Some []
+  LeavesAt AtEnd text left = left ≡ Some []
   LeavesAt (AtLine number) text left = TakesFew (line_decides number text) text left
   LeavesAt TooMany text left = TakesFew (count_decides text) text left
   LeavesAt (Halted zero claim) text left = left ≡ Some text
@@ -64,7 +65,7 @@ module _ {State Item : Type 0} (play : Play State Item) (limits : Limits) (start
   -- past as many lines as there may be. Nor does the machine halt before the first line.
   abbrev pub NothingStops : List ℕ → Type 0
   NothingStops taken =
-      ((played_from play limits start (closed_lines taken)).stop ≡ Whole)
+      ((played_from play limits start (closed_lines taken)).stop ≡ AtEnd)
       × (length (open_part taken) ≤ limits.line)
       × (length (closed_lines taken) ≡ limits.lines → open_part taken ≡ [])
 
@@ -137,11 +138,6 @@ is_decided (ClaimBroken claim) = true
 is_decided ReadFault = false
 is_decided WriteFault = false
 is_decided NoMemory = false
-
--- A count before and after: it rose where this is so, and else it stays.
-abbrev pub RisesWhere : Bool → ℕ → ℕ → Type 0
-RisesWhere true before now = (before ≤ now) × Rose before now
-RisesWhere false before now = now ≡ before
 
 -- The counts of faults of the schedule and of the sink, before and after: the one rose where
 -- reading failed, the other where writing failed, and each stays at every other answer.

@@ -5,19 +5,23 @@
 -- moved, the rendezvous line of the home follows for every event but TauRemote, and then that of
 -- the remote that the event names for every event but TauHome. After the last block come the line
 -- `end` and all rendezvous lines, the home's first. All of these lines show the configuration after
--- the event.
-use Rattle.std.specs.Prelude.{ℕ, ◌+◌, Bool, true, false, List, [], ◌∷◌, ◌++◌, Option, Some, None}
+-- the event. Where a claim is broken the line that says so stands before `end`, and no further
+-- event is played.
+use Rattle.std.specs.Prelude.{ℕ, Bool, true, false, List, [], ◌++◌, Option, Some, None}
 use Rattle.std.specs.Prelude.{is_some, unwrap_or, slice_get, codes}
 use Rattle.std.specs.Option.{option_map_or}
+use Rattle.rv_base.specs.Lists.{flat_from}
 use Rattle.proto_model.specs.Tokens.{Text}
-use Rattle.proto_model.specs.Numbered.{NumberedProtocol}
+use Rattle.proto_model.specs.Numbered.{CheckedProtocol}
 use Rattle.proto_model.specs.Rendezvous.{rv_start}
 use Rattle.proto_model.specs.RendezvousNext.{rv_next}
 use Rattle.proto_model.specs.Texts.{event_text, rv_line}
 use Rattle.proto_model.specs.declared.numbered.Body.{Body}
+use Rattle.proto_model.specs.declared.numbered.RuleClaim.{RuleClaim}
 use Rattle.proto_model.specs.declared.rendezvous.Part.{Part}
 use Rattle.proto_model.specs.declared.rendezvous.Event.{Event}
 use Rattle.proto_model.specs.declared.rendezvous.Event.TheVariants as event
+use Rattle.rendezvous_meaning.specs.Claims.{remote_states, broken}
 use Rattle.rendezvous_meaning.specs.Standing.{Standing}
 use Rattle.schedule_replay.specs.EventLines.{event_line}
 use Rattle.schedule_replay.specs.Play.{Play}
@@ -28,6 +32,7 @@ use Rattle.schedule_replay.specs.declared.events.EventLine.TheVariants as line
 use Rattle.schedule_replay.specs.declared.player.Meaning.{Meaning}
 use Rattle.schedule_replay.specs.declared.player.Meaning.TheVariants as meaning
 
+-- What is played at a line that says this.
 abbrev pub meaning_of : EventLine → Meaning Event
 meaning_of line.Blank = meaning.Blank
 meaning_of (line.Event e) = meaning.Says e
@@ -58,15 +63,14 @@ remote_line standing j =
     option_map_or (λ part. rv_line standing.protocol.remote part (Some j))
     (slice_get standing.config.remotes j) []
 
--- the rendezvous lines of remotes that are numbered from j on
-abbrev pub remote_lines_from : Body → ℕ → List Part → Text
-remote_lines_from body j [] = []
-remote_lines_from body j (part ∷ parts) =
-    rv_line body part (Some j) ++ remote_lines_from body (j + 1) parts
+-- the rendezvous line of a remote of this body that stands so, with this number
+abbrev pub numbered_line : Body → ℕ → Part → Text
+numbered_line body j part = rv_line body part (Some j)
 
 -- the rendezvous lines of all remotes, in the order of their numbers
 abbrev pub remote_lines : Standing → Text
-remote_lines standing = remote_lines_from standing.protocol.remote 0 standing.config.remotes
+remote_lines standing =
+    flat_from (numbered_line standing.protocol.remote) 0 standing.config.remotes
 
 -- the lines that follow an event that moved: of the home unless only a remote moved, and of the
 -- remote that the event names, if it names one
@@ -77,40 +81,55 @@ lines_after standing (event.Up j h r) = home_line standing ++ remote_line standi
 lines_after standing (event.Down j h r) = home_line standing ++ remote_line standing j
 
 -- what follows the event's text: whether it moved, and the lines after it
-abbrev pub told : Bool → Standing → Event → Text
-told true standing e = codes ": moved\n" ++ lines_after standing e
-told false standing e = codes ": refused\n"
+abbrev pub outcome : Bool → Standing → Event → Text
+outcome true standing e = codes ": moved\n" ++ lines_after standing e
+outcome false standing e = codes ": refused\n"
 
 -- the block of an event, behind its number
 abbrev pub block : Standing → Event → Text
-block standing e = event_text e ++ told (moves standing e) (after standing e) e
+block standing e = event_text e ++ outcome (moves standing e) (after standing e) e
 
 -- what stands after the last block
 abbrev pub ending : Standing → Text
 ending standing = codes "end\n" ++ (home_line standing ++ remote_lines standing)
 
--- No claim is broken in any configuration.
-abbrev pub halts : Standing → Option ℕ
-halts standing = None
+-- What contracts see of a machine whose claims are looked at: these claims, the protocol, and the
+-- configuration in which the machine stands.
+pub record Watched : Type 0 where
+  pub claims : List RuleClaim
+  pub standing : Standing
 
--- how a schedule of events is played on the rendezvous meaning
-abbrev pub rv_play : Play Standing Event
+-- The machine stands where the event leads; the claims stay.
+abbrev pub watched_after : Watched → Event → Watched
+watched_after watched e =
+    record { claims = watched.claims; standing = after watched.standing e }
+
+-- the number of the first claim that is broken in the configuration
+abbrev pub halts : Watched → Option ℕ
+halts watched = broken watched.claims (remote_states watched.standing.config)
+
+-- How a schedule of events is played on the rendezvous meaning. The machine halts where a claim is
+-- broken.
+abbrev pub rv_play : Play Watched Event
 rv_play = record {
   says = meaning_of_line;
-  after = after;
-  block = block;
-  ending = ending;
+  after = watched_after;
+  block = λ watched e. block watched.standing e;
+  ending = λ watched. ending watched.standing;
   halts = halts;
 }
 
--- the protocol with n remotes at the start
-abbrev pub rv_standing : NumberedProtocol → ℕ → Standing
-rv_standing protocol n = record { protocol = protocol; config = rv_start protocol n }
+-- the protocol with n remotes at the start, and its claims
+abbrev pub rv_watched : CheckedProtocol → ℕ → Watched
+rv_watched checked n = record {
+  claims = checked.claims;
+  standing = record { protocol = checked.protocol; config = rv_start checked.protocol n };
+}
 
 -- a schedule of events, played on the protocol with n remotes
-abbrev pub rv_played : NumberedProtocol → ℕ → List ℕ → Played Standing
-rv_played protocol n text = played rv_play schedule_limits (rv_standing protocol n) text
+abbrev pub rv_played : CheckedProtocol → ℕ → List ℕ → Played Watched
+rv_played checked n text = played rv_play schedule_limits (rv_watched checked n) text
 
 -- the trace of a schedule on the protocol with n remotes
-abbrev pub rv_text : NumberedProtocol → ℕ → List ℕ → Text
-rv_text protocol n text = trace rv_play schedule_limits (rv_standing protocol n) text
+abbrev pub rv_text : CheckedProtocol → ℕ → List ℕ → Text
+rv_text checked n text = trace rv_play schedule_limits (rv_watched checked n) text

@@ -6,7 +6,7 @@ use Rattle.std.specs.Io.KnownBytes.{append_known}
 use Rattle.schedule_replay.specs.Reading.{Reading}
 use Rattle.schedule_replay.specs.NextLine.{GetsLine, FindsEnd, FindsLong, FindsMany, Breaks, Lacks}
 use Rattle.schedule_replay.specs.Play.{Play}
-use Rattle.schedule_replay.specs.Played.{Stop, Played, stopped, behind, numbered_block, claim_text}
+use Rattle.schedule_replay.specs.Played.{Stop, stopped, behind, numbered_block, claim_text}
 use Rattle.schedule_replay.specs.Played.{played, trace}
 use Rattle.schedule_replay.specs.Replayed.{answer_of, LeavesAt, BreaksOff, blocks_taken, is_decided}
 use Rattle.schedule_replay.specs.Replayed.{is_read_fault, is_write_fault}
@@ -43,6 +43,7 @@ AskEnds limits old new before after replayed.ReadFault = Breaks limits old new b
 AskEnds limits old new before after replayed.WriteFault = after ≡ before
 AskEnds limits old new before after replayed.NoMemory = Lacks limits old before after
 
+-- The same whatever asking answers.
 abbrev pub AskMoves : Limits → Reading → Reading → Option (List ℕ) → Option (List ℕ)
     → Result ℕ Replayed → Type 0
 AskMoves limits old new before after (Ok number) = GetsLine limits old new before after number
@@ -65,6 +66,7 @@ AskKeeps old new before now replayed.ReadFault = (new ≡ []) × (now ≡ append
 AskKeeps old new before now replayed.WriteFault = PutsFront before old now
 AskKeeps old new before now replayed.NoMemory = PutsFront before old now
 
+-- The same whatever asking answers.
 abbrev pub AskWrites : List ℕ → List ℕ → Option (List ℕ) → Option (List ℕ) → Result ℕ Replayed
     → Type 0
 AskWrites old new before now (Ok number) = Moved old new before now
@@ -112,6 +114,7 @@ module _ {State Item : Type 0} (play : Play State Item) where
   LineEnds old new played line number before kept replayed.WriteFault = ⊥
   LineEnds old new played line number before kept replayed.NoMemory = Unit {0}
 
+  -- The same whether the schedule goes on or ends.
   abbrev pub PlaysLine : State → State → ℕ → ℕ → List ℕ → ℕ → List ℕ → List ℕ → Option Replayed
       → Type 0
   PlaysLine old new played count line number before kept None =

@@ -1,12 +1,12 @@
 //! A line of a schedule of events.
 
-ghost use Rattle.std.specs.Prelude.{◌≡◌};
+ghost use Rattle.std.specs.Prelude.{◌≡◌, ◌∷◌};
 ghost use Rattle.rv_base.specs.Words.{words};
 ghost use Rattle.schedule_replay.specs.EventLines as events;
 ghost use Rattle.schedule_replay.specs.EventLines.{Says, event_line};
 
 use proto_model::Event;
-use rv_base::{read_number, word_at};
+use rv_base::{next_word, read_number};
 
 // The greatest number that a line can write.
 const NUMBER_LIMIT: u64 = 99_999;
@@ -61,22 +61,34 @@ fn meeting_event(name: &[u8], remote: &[u8], home_rule: &[u8], remote_rule: &[u8
     None
 }
 
-// The event that the line's words say.
-fn event_of(line: &[u8]) -> Option<Event>
-    ensures { result ≡ events.event_of (words line.now) }
+// The event that this word and those of the rest of the line say.
+fn event_of(name: &[u8], rest: &[u8]) -> Option<Event>
+    ensures { result ≡ events.event_of (name.now ∷ words rest.now) }
 {
-    let (name, second, third) = (word_at(line, 0)?, word_at(line, 1)?, word_at(line, 2)?);
-    let Some(fourth) = word_at(line, 3) else {
+    let (second, rest) = next_word(rest)?;
+    let (third, rest) = next_word(rest)?;
+    let Some((fourth, rest)) = next_word(rest) else {
         return if name == b"tau".as_slice() {
             tau_event(second, third)
         } else {
             None
         };
     };
-    if word_at(line, 4).is_some() {
+    if next_word(rest).is_some() {
         return None;
     }
     meeting_event(name, second, third, fourth)
+}
+
+// What a line says that has this word and then those of the rest.
+fn line_of_words(name: &[u8], rest: &[u8]) -> EventLine
+    ensures says { Says (name.now ∷ words rest.now) result }
+    ensures value { result ≡ events.line_of_words (name.now ∷ words rest.now) }
+{
+    match event_of(name, rest) {
+        Some(event) => EventLine::Event(event),
+        None => EventLine::Bad,
+    }
 }
 
 /// Reads a line of a schedule of events, without its LF and whatever its length: of what stands
@@ -86,13 +98,10 @@ pub fn read_event_line(line: &[u8]) -> EventLine
     ensures says { Says (words line.now) result }
     ensures value { result ≡ event_line line.now }
 {
-    if word_at(line, 0).is_none() {
+    let Some((name, rest)) = next_word(line) else {
         return EventLine::Blank;
-    }
-    match event_of(line) {
-        Some(event) => EventLine::Event(event),
-        None => EventLine::Bad,
-    }
+    };
+    line_of_words(name, rest)
 }
 
 #[cfg(test)]

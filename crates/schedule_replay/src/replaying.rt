@@ -1,11 +1,11 @@
 //! The loop that replays a schedule.
 
 ghost use Rattle.std.specs.Prelude.{◌≡◌, ◌⊎◌, ◌+◌, ◌<◌, ◌^◌, [], ◌++◌, true, false, OnOk, IfSome};
-ghost use Rattle.rv_base.specs.Whole.{TakesAtMost, Writes, WriteCauses, WritesThrough};
+ghost use Rattle.rv_base.specs.Outside.{RisesWhere};
+ghost use Rattle.rv_base.specs.Whole.{TakesAtMost, Writes, writing_failed, WritesThrough};
 ghost use Rattle.schedule_replay.specs.Limits.{most_taken};
-ghost use Rattle.schedule_replay.specs.AtHand.{reading_of};
 ghost use Rattle.schedule_replay.specs.Played.{numbered_block};
-ghost use Rattle.schedule_replay.specs.Replayed.{StopsSo, WritesSo, ReplayCounts, RisesWhere};
+ghost use Rattle.schedule_replay.specs.Replayed.{StopsSo, WritesSo, ReplayCounts};
 ghost use Rattle.schedule_replay.specs.Replayed as replayed;
 ghost use Rattle.schedule_replay.specs.Replayed.{is_read_fault, is_write_fault};
 ghost use Rattle.schedule_replay.specs.Turns as turns;
@@ -54,7 +54,7 @@ fn is_decided(answer: Replayed) -> bool
 fn flush<O: Sink>(kept: &mut Vec<u8>, out: &mut O) -> Wrote
     ensures none { kept.new.items ≡ [] }
     ensures bytes { Writes (O.taken out.old) (O.taken out.new) kept.old.items result }
-    ensures cause { WriteCauses (O.faults out.old) (O.faults out.new) result }
+    ensures cause { RisesWhere (writing_failed result) (O.faults out.old) (O.faults out.new) }
     ensures went { WritesThrough O.refused out.old out.new result }
 {
     let wrote = write_whole(out, kept);
@@ -86,7 +86,7 @@ fn ask<Q: Source, O: Sink>(
 ) -> Result<u32, Replayed>
     requires ended { lines.old.ended ≡ true → Q.ended schedule.old ≡ true }
     ensures limits { lines.new.limits ≡ lines.old.limits }
-    ensures moves { AskMoves lines.old.limits (reading_of lines.old) (reading_of lines.new)
+    ensures moves { AskMoves lines.old.limits lines.old lines.new
         (Q.left schedule.old) (Q.left schedule.new) result }
     ensures ends { lines.new.ended ≡ true → Q.ended schedule.new ≡ true }
     ensures reads { RisesWhere (asks_fault result) (Q.faults schedule.old) (Q.faults schedule.new) }
@@ -94,12 +94,14 @@ fn ask<Q: Source, O: Sink>(
         (O.taken out.old) (O.taken out.new) result }
     ensures writes { RisesWhere (asks_write_fault result) (O.faults out.old) (O.faults out.new) }
     ensures went { asks_well result ≡ true → (out.new ≡ out.old) ⊎ (O.refused out.new ≡ false) }
+    ensures gave { asks_well result ≡ true
+        → (schedule.new ≡ schedule.old) ⊎ (Q.refused schedule.new ≡ false) }
 {
     if let Some(next) = lines.at_hand() {
         return said(next);
     }
     match flush(kept, out) {
-        Wrote::Whole => said(lines.read(schedule)),
+        Wrote::Whole => said(lines.next(schedule)),
         Wrote::Failed => Err(Replayed::WriteFault),
         Wrote::NoMemory => Err(Replayed::NoMemory),
     }
@@ -174,6 +176,8 @@ fn play_lines<P: Player, Q: Source, O: Sink>(
     ensures ended { result ≡ Replayed.Done → Q.ended schedule.new ≡ true }
     ensures went { replayed.is_decided result ≡ true
         → (out.new ≡ out.old) ⊎ (O.refused out.new ≡ false) }
+    ensures gave { replayed.is_decided result ≡ true
+        → (schedule.new ≡ schedule.old) ⊎ (Q.refused schedule.new ≡ false) }
 {
     if let Some(claim) = player.halts() {
         return Replayed::ClaimBroken(claim);
@@ -263,6 +267,8 @@ pub fn play_schedule<P: Player, Q: Source, O: Sink>(
     ensures ended { result ≡ Replayed.Done → Q.ended schedule.new ≡ true }
     ensures went { replayed.is_decided result ≡ true
         → (out.new ≡ out.old) ⊎ (O.refused out.new ≡ false) }
+    ensures gave { replayed.is_decided result ≡ true
+        → (schedule.new ≡ schedule.old) ⊎ (Q.refused schedule.new ≡ false) }
 {
     let mut kept = Vec::new(alloc);
     let answer = play_lines(alloc, limits, player, schedule, &mut kept, out);

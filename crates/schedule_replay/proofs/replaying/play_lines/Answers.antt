@@ -1,6 +1,5 @@
 -- Each turn keeps what was read and what was played in step, and each answer says how it ends.
 use Rattle.std.proofs.Common.{◌≡◌, [], ◌∷◌, ◌++◌, false, inl, refl, sym, ◌∙◌, ap}
-use Rattle.schedule_replay.specs.AtHand.{reading_of}
 use Rattle.schedule_replay.specs.Reading.{Reading}
 use Rattle.schedule_replay.proofs.LinesSoFar.{Reads-start, Reads-few}
 use Rattle.schedule_replay.proofs.PlayedSoFar.{Plays-start, Plays-asked}
@@ -18,14 +17,15 @@ returns-in-Some-clause-plays g c =
 pub loop-number-init : goal.loop-number-init
 loop-number-init g c = record {
   done = [];
-  reads = rw c.new-lines.ensures.reading (Reads-start c.args.limits
+  reads = rw c.new-lines.ensures (Reads-start c.args.limits
       (g.Q.Source.left c.args.schedule.now));
   plays = rw c.requires.none (Plays-start g.P.Player.play c.args.limits c.args.player.now
       (g.O.Sink.taken c.args.out.now) (sym c.in_default.ensures));
-  same_limits = c.new-lines.ensures.limits;
+  same_limits = ap (λ (r : Reading). r.limits) c.new-lines.ensures;
   at_end = λ over. absurd (let none : c.new-lines.result.ended ≡ false =
-      ap (λ (r : Reading). r.ended) c.new-lines.ensures.reading in cc);
+      ap (λ (r : Reading). r.ended) c.new-lines.ensures in cc);
   went = inl refl;
+  gave = inl refl;
   same_reads = refl;
   same_writes = refl;
 }
@@ -34,20 +34,20 @@ pub returns-in-Err-clause-plays : goal.returns-in-Err-clause-plays
 returns-in-Err-clause-plays g c =
     let so_far = c.loop-number.invariant in
     let moves = ends-within c.args.limits c.loop-number.lines.limits
-    (reading_of c.loop-number.lines) (reading_of c.ask.new.lines)
+    c.loop-number.lines c.ask.new.lines
     (g.Q.Source.left c.loop-number.schedule) (g.Q.Source.left c.ask.new.schedule)
     c.in-Err.answer so_far.same_limits c.in-Err.ensures.moves in
     ask-owes g.P.Player.play c.args.limits c.args.player.now (g.Q.Source.left c.ask.new.schedule)
-    (g.O.Sink.taken c.ask.new.out) (reading_of c.ask.new.lines)
+    (g.O.Sink.taken c.ask.new.out) c.ask.new.lines
     c.ask.new.kept.items c.in-Err.answer
     so_far.reads moves so_far.plays c.in-Err.ensures.bytes
 
 pub returns-in-Err-clause-taken : goal.returns-in-Err-clause-taken
 returns-in-Err-clause-taken g c =
     let so_far = c.loop-number.invariant in
-    ask-few (g.Q.Source.left c.ask.new.schedule) (reading_of c.ask.new.lines)
+    ask-few (g.Q.Source.left c.ask.new.schedule) c.ask.new.lines
     c.in-Err.answer so_far.reads (ends-within c.args.limits c.loop-number.lines.limits
-    (reading_of c.loop-number.lines) (reading_of c.ask.new.lines)
+    c.loop-number.lines c.ask.new.lines
     (g.Q.Source.left c.loop-number.schedule) (g.Q.Source.left c.ask.new.schedule)
     c.in-Err.answer so_far.same_limits c.in-Err.ensures.moves)
 
@@ -79,7 +79,7 @@ loop-number-preserved g c =
     (g.O.Sink.taken c.ask.new.out) c.loop-number.kept.items c.ask.new.kept.items
     c.loop-number.player c.loop-number.played so_far.done so_far.plays asked.bytes in
     record {
-      done = so_far.done ++ (reading_of c.ask.new.lines).text ∷ [];
+      done = so_far.done ++ c.ask.new.lines.text ∷ [];
       reads = line.reads;
       plays = line-plays g.P.Player.play c.args.limits c.args.player.now line plays
           (rw c.text.ensures at c.in_default-play_line.ensures);
@@ -87,6 +87,8 @@ loop-number-preserved g c =
       at_end = asked.ends;
       went = went-on g.O.Sink.refused c.args.out.now c.loop-number.out c.ask.new.out so_far.went
           (asked.went refl);
+      gave = went-on g.Q.Source.refused c.args.schedule.now c.loop-number.schedule
+          c.ask.new.schedule so_far.gave (asked.gave refl);
       same_reads = asked.reads ∙ so_far.same_reads;
       same_writes = asked.writes ∙ so_far.same_writes;
     }
