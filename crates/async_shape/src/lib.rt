@@ -4,6 +4,7 @@
 //!
 //! - `config`: where the home and the remotes stand.
 //! - `step`: the steps.
+//! - `laws`: that each configuration of each run has the shape.
 //! - `worked_steps`: what the definition of a step says of worked runs.
 //! - `worked_rows`: which row each of their steps fires.
 //!
@@ -19,9 +20,11 @@
 #![tactic(auto)]
 
 mod config;
+mod laws;
 mod step;
 pub mod worked_rows;
 pub mod worked_steps;
 
 pub use config::{HomePlace, HomeState, RemoteState, Request, Waiting};
+pub use laws::every_run_is_shaped;
 pub use step::Step;
