@@ -29,6 +29,7 @@ pub data Fate : Type 0 where
   Granted : Fate
   Replied : Value → Fate
 
+-- the request was granted, or not
 abbrev pub granted_if : Bool → Fate
 granted_if true = Granted
 granted_if false = NotGranted
@@ -42,6 +43,7 @@ fate_in (packet.Ack ∷ packets) granted = fate_in packets true
 fate_in (packet.Nack ∷ packets) granted = fate_in packets granted
 fate_in (packet.Reply p v ∷ packets) granted = Replied v
 
+-- the remote is due to send a reply
 abbrev pub is_due : Place → Bool
 is_due (Comm state) = false
 is_due (Trans g) = false

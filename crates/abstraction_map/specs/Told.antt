@@ -36,13 +36,14 @@ answer_event j (Waits waiting) None = None
 answer_event j (Waits waiting) (Some input) = Some (event.Down j waiting.by.guard input.number)
 
 module _ (protocol : NumberedProtocol) (c : Config) where
-  -- HomeTake(j) by guard h: the home takes what remote j gives by its one guard.
+  -- HomeTake(j) by guard h: the home takes what remote j gives by its one guard, and the event is
+  -- Up(j, h, 0). None where the home takes nothing.
   abbrev pub take_event : ℕ → Option Event
   take_event j =
       option_map (λ what. event.Up j what.guard.number 0)
       (taking (count_of c) protocol.home c.home c.held j)
 
-  -- the guard by which remote j answers
+  -- the guard by which remote j answers the request in its slot, if there is one
   abbrev pub answering : ℕ → Option Chosen
   answering j = option_and_then (answering_guard protocol.remote) (slice_get c.remotes j)
 
@@ -59,6 +60,7 @@ module _ (protocol : NumberedProtocol) (c : Config) where
   event_behind (step.Up j) = None
   event_behind (step.Down j) = None
 
+  -- what is told of the step, where it is enabled; one that isn't is refused
   abbrev pub told_if : Bool → Step → Told
   told_if true s = event_or_stutter (event_behind s)
   told_if false s = Refused

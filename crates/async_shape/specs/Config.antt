@@ -11,6 +11,8 @@ use Rattle.async_shape.specs.declared.config.HomeState.{HomeState}
 use Rattle.async_shape.specs.declared.config.HomePlace.TheVariants.{Idle}
 use Rattle.async_shape.specs.declared.config.RemoteState.{RemoteState}
 
+-- Where the home stands, with its variables and debts; the requests that it holds; where each
+-- remote stands; and the packets on the links.
 pub record Config : Type 0 where
   pub home : HomeState
   -- the requests that the home holds, in order of arrival

@@ -54,32 +54,35 @@ abbrev pub row_place : HomePlace → Place
 row_place (Idle state) = Comm state
 row_place (Waits waiting) = Trans waiting.by
 
+-- the home fires a row by this trigger, with this value
 abbrev pub home_fires : Config → Trigger → Value → Firing
 home_fires c on v = record { mover = Home; at = row_place c.home.place; on = on; value = v }
 
+-- remote j, which stands so, fires a row by this trigger, with this value
 abbrev pub remote_fires : ℕ → Trigger → Value → RemoteState → Firing
 remote_fires j on v remote = record { mover = Remote j; at = remote.place; on = on; value = v }
 
--- a packet arrives at a home that waits on its sender
+-- what makes a home move that waits on the sender of this packet, which arrives
 abbrev pub home_trigger : Packet → Trigger
 home_trigger (packet.Request m v) = trigger.GotRequest
 home_trigger packet.Ack = trigger.GotAck
 home_trigger packet.Nack = trigger.GotNack
 home_trigger (packet.Reply p v) = trigger.GotReply p
 
--- a packet arrives at a remote that waits; a request fires no row, since it is dropped
+-- what makes a remote move that waits, where this packet arrives; a request fires no row, since it
+-- is dropped
 abbrev pub remote_trigger : Packet → Option Trigger
 remote_trigger (packet.Request m v) = None
 remote_trigger packet.Ack = Some trigger.GotAck
 remote_trigger packet.Nack = Some trigger.GotNack
 remote_trigger (packet.Reply p v) = Some (trigger.GotReply p)
 
--- HomeSend(g, j): the home pays what it owes, or sends a request
+-- HomeSend(g, j): the home pays the reply that it owes to j; where it owes none, it sends a request
 abbrev pub send_trigger : ℕ → Option ℕ → Trigger
 send_trigger g (Some p) = trigger.Pay g
 send_trigger g None = trigger.Send g
 
--- RemoteAnswer(j): by this guard, or by none
+-- RemoteAnswer(j): the remote answers by this guard; or no guard takes the request
 abbrev pub answer_trigger : Option Chosen → Trigger
 answer_trigger (Some input) = trigger.Answer input.number
 answer_trigger None = trigger.AnswerNone
@@ -101,7 +104,7 @@ answer_fires protocol j remote =
     let on = answer_trigger (answering_guard protocol.remote remote) in
     remote_fires j on (slot_value remote) remote
 
--- Up(j): where the home waits on j, the packet that arrives
+-- Up(j): where the home waits on j, the packet that arrives makes it move; else no row fires
 abbrev pub up_fires : Config → ℕ → HomePlace → Option Firing
 up_fires c j (Idle state) = None
 up_fires c j (Waits waiting) =
@@ -110,7 +113,7 @@ up_fires c j (Waits waiting) =
     (arriving c (Up j))
     else None
 
--- Down(j): where remote j waits, the packet that arrives
+-- Down(j): where remote j waits, the packet that arrives makes it move; else no row fires
 abbrev pub down_fires : Config → ℕ → RemoteState → Place → Option Firing
 down_fires c j remote (Comm state) = None
 down_fires c j remote (Trans g) =
@@ -120,7 +123,7 @@ down_fires c j remote (Trans g) =
 down_fires c j remote (Due g) = None
 
 module _ (protocol : NumberedProtocol) (c : Config) where
-  -- HomeTake(j): by the guard that is completed
+  -- HomeTake(j): the home takes the request by the guard that it completes, with its value
   abbrev pub take_fires : ℕ → Option Firing
   take_fires j =
       option_map (λ what. home_fires c (trigger.Take what.guard.number) what.request.value)
@@ -151,16 +154,20 @@ pub record Situation : Type 0 where
   pub place : Place
   pub vars : List Value
 
+-- the place and the variables of the home
 abbrev pub home_situation : Config → Situation
 home_situation c = record { place = row_place c.home.place; vars = c.home.vars }
 
+-- the place and the variables of a remote
 abbrev pub remote_situation : RemoteState → Situation
 remote_situation remote = record { place = remote.place; vars = remote.vars }
 
+-- those of each remote
 abbrev pub remote_situations : Config → List Situation
 remote_situations c = map remote_situation c.remotes
 
--- the variables after one guard
+-- the variables after this guard, completed with this partner and value; where there is no such
+-- guard, they stay
 abbrev pub vars_after_one : Body → List Value → GuardId → ℕ → Value → List Value
 vars_after_one body vars g partner v =
     option_map_or (λ rule. (after_guard body vars rule rule.next partner v).vars)
@@ -244,11 +251,12 @@ module _ (setting : Setting) (c d : Config) (s : Step) where
     pub home : home_situation d ≡ home_situation c
     pub others : remote_situations d ≡ slice_set (remote_situations c) j after
 
-  -- by the rows of the home, and those of a remote
+  -- the change is explained by a row of the process that moves, the home or remote j
   abbrev pub FiresSo : List Row → List Row → Mover → Firing → Type 0
   FiresSo home_rows remote_rows Home firing = HomeByRow home_rows firing
   FiresSo home_rows remote_rows (Remote j) firing = RemoteByRow remote_rows firing j
 
+  -- where nothing fires a row, nobody changes place or variables; else a row explains the change
   abbrev pub ByRowOf : List Row → List Row → Option Firing → Type 0
   ByRowOf home_rows remote_rows None = ByNoRow c d
   ByRowOf home_rows remote_rows (Some firing) = FiresSo home_rows remote_rows firing.mover firing

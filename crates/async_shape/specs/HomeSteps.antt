@@ -25,7 +25,7 @@ use Rattle.async_shape.specs.Setting.{Setting, reply_to}
 use Rattle.async_shape.specs.Config.{owed_to}
 use Rattle.async_shape.specs.Guards.{after_ack, after_reply}
 use Rattle.async_shape.specs.Requests.{is_target_of, Taking, taking, some_completes}
-use Rattle.async_shape.specs.Requests.{admits, displaces}
+use Rattle.async_shape.specs.Requests.{is_admitted, displaces}
 use Rattle.async_shape.specs.Outcome.{HomeOutcome, at_home, put_on, home_idle_state, home_at, owing}
 use Rattle.async_shape.specs.declared.config.HomeState.{HomeState}
 use Rattle.async_shape.specs.declared.config.HomePlace.{HomePlace}
@@ -107,7 +107,8 @@ module _ (setting : Setting) (n : ℕ) (home : HomeState) (held : List Held) whe
   sent_to j g rule None message =
       if may_request j then Some (requested home held j g message) else None
 
-  -- by this guard, where it is an open output of which j is a target
+  -- What the home sends to j by this guard, where it is an open output of which j is a target; none
+  -- where it isn't, and where the home may not send the message.
   abbrev pub sent_by : ℕ → GuardId → Rule → Option HomeOutcome
   sent_by j g rule =
       let message = given setting.protocol.messages home.vars rule.kind in
@@ -170,14 +171,14 @@ home_answered body home waiting (packet.Request m v) =
 abbrev pub request_from : ℕ → ℕ → Value → Held
 request_from j m v = record { from = j; message = m; value = v }
 
--- the request that crosses the home's own is held, in the ack slot
+-- what the home holds then: a request that crosses the home's own is held too, in the ack slot
 abbrev pub held_crossing : List Held → ℕ → Packet → List Held
 held_crossing held j packet.Ack = held
 held_crossing held j packet.Nack = held
 held_crossing held j (packet.Reply p v) = held
 held_crossing held j (packet.Request m v) = held ++ request_from j m v ∷ []
 
--- the home waits on j, of which this packet arrives
+-- what a home does that waits on j, where this packet of j arrives
 abbrev pub up_answer : Body → HomeState → List Held → ℕ → Waiting → Packet → HomeOutcome
 up_answer body home held j waiting arrived =
     at_home (home_answered body home waiting arrived) (held_crossing held j arrived) None
@@ -192,17 +193,18 @@ made_room home held request last = record {
 }
 
 module _ (setting : Setting) (n : ℕ) (home : HomeState) (held : List Held) where
-  -- A request, and the home doesn't wait on its sender: it is kept, or displaces the last held one,
-  -- or is nacked.
+  -- A request arrives, and the home doesn't wait on its sender: it is kept, or displaces the last
+  -- held one, or is nacked.
   abbrev pub up_request : Held → HomeOutcome
   up_request request =
-      if admits n setting.protocol.home home setting.slots held request
+      if is_admitted n setting.protocol.home home setting.slots held request
       then at_home home (held ++ request ∷ []) None
       else (if displaces n setting.protocol.home home setting.slots held request
       then option_map_or (made_room home held request) (last_of held) (at_home home held None)
       else at_home home held (put_on (Down request.from) packet.Nack))
 
-  -- The home doesn't wait on j. Any packet but a request changes nothing.
+  -- This packet of j arrives, and the home doesn't wait on j: a request is dealt with as above, and
+  -- any other packet changes nothing.
   abbrev pub up_other : ℕ → Packet → HomeOutcome
   up_other j (packet.Request m v) = up_request (request_from j m v)
   up_other j packet.Ack = at_home home held None
@@ -217,6 +219,6 @@ module _ (setting : Setting) (n : ℕ) (home : HomeState) (held : List Held) whe
       then up_answer setting.protocol.home home held j waiting arrived
       else up_other j arrived
 
-  -- Up(j): this packet arrives.
+  -- Up(j): this packet of j arrives at the home.
   unfoldable pub up : ℕ → Packet → HomeOutcome
   up j arrived = up_at j home.place arrived

@@ -4,7 +4,8 @@ use Rattle.std.specs.Prelude.{is_some, slice_get, slice_set}
 use Rattle.std.specs.Option.{option_map, option_map_or, option_and_then}
 use Rattle.slot_reserve.specs.declared.held.Held.{Held}
 use Rattle.ordered_links.specs.Link.{Link}
-use Rattle.ordered_links.specs.Lists.{LinkPair, packets_on, first, after_put, after_take}
+use Rattle.ordered_links.specs.Lists.{LinkPair, packets_on, first_packet}
+use Rattle.ordered_links.specs.Lists.{after_put, after_take}
 use Rattle.ordered_links.specs.declared.packet.Packet.{Packet}
 use Rattle.async_shape.specs.Setting.{Setting}
 use Rattle.async_shape.specs.Config.{Config, count_of}
@@ -18,8 +19,9 @@ use Rattle.async_shape.specs.declared.config.RemoteState.{RemoteState}
 use Rattle.async_shape.specs.declared.step.Step.{Step}
 use Rattle.async_shape.specs.declared.step.Step.TheVariants as step
 
--- what a step does to the whole
-pub record Outcome : Type 0 where
+-- What a step does to the whole: how home and remotes stand after it, what is held, what it puts
+-- and takes, and whose request it displaces.
+pub record StepOutcome : Type 0 where
   pub home : HomeState
   pub held : List Held
   pub remotes : List RemoteState
@@ -46,7 +48,7 @@ links_after put takes_from links = links_left takes_from (links_put put links)
 
 -- the packet that is the first on this link
 abbrev pub arriving : Config → Link → Option Packet
-arriving c link = first (packets_on link c.links)
+arriving c link = first_packet (packets_on link c.links)
 
 -- the packet that arrives in a step which takes from this link, if from any: the first one on it
 abbrev pub arrival : Config → Option Link → Option Packet
@@ -57,7 +59,7 @@ abbrev pub is_in_range : Config → Step → Bool
 is_in_range c s = option_map_or (λ j. nat_lt j (count_of c)) (remote_named (site s)) true
 
 -- the configuration that an outcome leaves
-abbrev pub config_after : Config → Outcome → Config
+abbrev pub config_after : Config → StepOutcome → Config
 config_after c o = record {
   home = o.home;
   held = o.held;
@@ -67,8 +69,8 @@ config_after c o = record {
 
 -- in this configuration, of a step that takes a packet from this link, if from any
 module _ (c : Config) (takes_from : Option Link) where
-  -- a step at the home, and one at remote j
-  abbrev pub home_moved : HomeOutcome → Outcome
+  -- what a step at the home does to the whole: the remotes stay
+  abbrev pub home_moved : HomeOutcome → StepOutcome
   home_moved o = record {
     home = o.home;
     held = o.held;
@@ -78,7 +80,8 @@ module _ (c : Config) (takes_from : Option Link) where
     displaced_from = o.displaced_from;
   }
 
-  abbrev pub remote_moved : ℕ → RemoteOutcome → Outcome
+  -- what a step at remote j does to the whole: the home, what it holds and the other remotes stay
+  abbrev pub remote_moved : ℕ → RemoteOutcome → StepOutcome
   remote_moved j o = record {
     home = c.home;
     held = c.held;
@@ -88,16 +91,16 @@ module _ (c : Config) (takes_from : Option Link) where
     displaced_from = None;
   }
 
-  -- what the step does at remote j, by what it does to where this remote stands; none where the
-  -- remote isn't there
-  abbrev pub remote_moves : ℕ → (RemoteState → Option RemoteOutcome) → Option Outcome
+  -- what the step does to the whole, by what it does at remote j; none where there is no such
+  -- remote, and where it does nothing there
+  abbrev pub remote_moves : ℕ → (RemoteState → Option RemoteOutcome) → Option StepOutcome
   remote_moves j does =
       option_and_then (λ remote. option_map (remote_moved j) (does remote)) (slice_get c.remotes j)
 
 module _ (setting : Setting) (c : Config) where
   -- What the step does, where the remote that it names is there. The link is the one from which it
   -- takes a packet; its site says which, so that it stands here once.
-  abbrev pub outcome_of : Option Link → Step → Option Outcome
+  abbrev pub outcome_of : Option Link → Step → Option StepOutcome
   outcome_of link (step.HomeTau g) =
       option_map (home_moved c link) (home_tau setting c.home c.held g)
   outcome_of link (step.HomeTake j) =
@@ -119,7 +122,7 @@ module _ (setting : Setting) (c : Config) where
 
   -- What a step does, or none where it is not enabled. A remote number at or past the count of
   -- remotes gives none, and so does a guard number out of range.
-  abbrev pub outcome : Step → Option Outcome
+  abbrev pub outcome : Step → Option StepOutcome
   outcome s = if is_in_range c s then outcome_of (arrival_link (site s)) s else None
 
   -- the packet that the step puts, and its link
@@ -138,5 +141,6 @@ module _ (setting : Setting) (c : Config) where
   abbrev pub next : Step → Option Config
   next s = option_map (config_after c) (outcome s)
 
+  -- the step is enabled: there is a configuration after it
   abbrev pub is_enabled : Step → Bool
   is_enabled s = is_some (next s)

@@ -16,6 +16,7 @@ pub record Put : Type 0 where
   pub on : Link
   pub packet : Packet
 
+-- this packet is put on this link
 abbrev pub put_on : Link → Packet → Option Put
 put_on link what = Some (record { on = link; packet = what })
 
@@ -27,7 +28,7 @@ pub record HomeOutcome : Type 0 where
   -- the sender of the held request that made room for another one, where one did
   pub displaced_from : Option ℕ
 
--- where no request is displaced
+-- what a step leaves at the home that displaces no request
 abbrev pub at_home : HomeState → List Held → Option Put → HomeOutcome
 at_home home held put = record { home = home; held = held; put = put; displaced_from = None }
 
@@ -36,6 +37,7 @@ pub record RemoteOutcome : Type 0 where
   pub remote : RemoteState
   pub put : Option Put
 
+-- the remote so, and this put
 abbrev pub at_remote : RemoteState → Option Put → RemoteOutcome
 at_remote remote put = record { remote = remote; put = put }
 
@@ -50,7 +52,7 @@ home_idle_state (Waits waiting) = None
 abbrev pub home_at : HomeState → Part → HomeState
 home_at home p = record { place = Idle p.state; vars = p.vars; owed = home.owed }
 
--- the home owes this to remote j
+-- the home, where it owes this message to remote j, or owes it none
 abbrev pub owing : ℕ → Option ℕ → HomeState → HomeState
 owing j debt home =
     record { place = home.place; vars = home.vars; owed = slice_set home.owed j debt }

@@ -56,14 +56,17 @@ pub data Phase : Type 0 where
 
 -- ---- what is under way
 
+-- the packet of a request
 abbrev pub as_packet : Request → Packet
 as_packet r = packet.Request r.message r.value
 
+-- the packet of a request that may be missing
 abbrev pub packets_of : Option Request → List Packet
 packets_of None = []
 packets_of (Some r) = as_packet r ∷ []
 
--- an old request, an answer, and a request
+-- the packets on a down link: an old request, if there is one; an answer; and a request, if there
+-- is one
 abbrev pub down_list : Option Request → Packet → Option Request → List Packet
 down_list None answer None = answer ∷ []
 down_list None answer (Some r) = answer ∷ as_packet r ∷ []
@@ -80,11 +83,13 @@ pub record Signs : Type 0 where
   pub held : Option Request
   pub owed : Option ℕ
 
--- nothing is in the slot, held or owed, unless a phase says so
+-- These packets are on the links, and the home waits for this request to be answered; nothing is in
+-- the slot, held or owed.
 abbrev pub on_links : Option Request → List Packet → List Packet → Signs
 on_links awaited up down =
     record { awaited = awaited; up = up; down = down; slot = None; held = None; owed = None }
 
+-- what each phase says of what is under way
 abbrev pub signs_of : Phase → Signs
 signs_of Resting = on_links None [] []
 signs_of (RequestComes r) = on_links (Some r) [] (as_packet r ∷ [])
@@ -110,6 +115,7 @@ pub record Has (v : View) (signs : Signs) : Type 0 where
 
 -- ---- where the remote stands
 
+-- the remote stands in a communication state
 abbrev pub is_idle_place : Place → Bool
 is_idle_place (Comm state) = true
 is_idle_place (Trans g) = false
@@ -149,7 +155,7 @@ module _ (protocol : NumberedProtocol) where
   due_at (Trans g) = None
   due_at (Due g) = option_and_then (λ rule. message_out rule.kind) (guard_by protocol.remote g)
 
-  -- an old request is one of a down message
+  -- an old request, if there is one, is of a down message
   abbrev pub IsOld : Option Request → Type 0
   IsOld None = Unit {0}
   IsOld (Some r) = goes_down protocol r.message ≡ true
@@ -207,10 +213,13 @@ module _ (protocol : NumberedProtocol) where
     pub message : m < length protocol.messages
     pub value : IsCarriedBy protocol.messages m v
 
+  -- the request in the slot, if there is one, is of a message of the protocol and has a value of
+  -- its type
   abbrev pub IsTypedSlot : Option Request → Type 0
   IsTypedSlot None = Unit {0}
   IsTypedSlot (Some r) = IsTypedMessage r.message r.value
 
+  -- a request or a reply is of a message of the protocol and has a value of its type
   abbrev pub IsTypedPacket : Packet → Type 0
   IsTypedPacket (packet.Request m v) = IsTypedMessage m v
   IsTypedPacket packet.Ack = Unit {0}

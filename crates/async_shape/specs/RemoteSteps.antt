@@ -44,7 +44,7 @@ remote_requested j remote g message =
 
 -- of remote j, which stands so
 module _ (setting : Setting) (j : ℕ) (remote : RemoteState) where
-  -- by this output of the state; none where the guard is no output
+  -- Remote j sends by this guard of the state; none where the guard is no output.
   abbrev pub remote_sent_by : ℕ → Chosen → Option RemoteOutcome
   remote_sent_by state output =
       option_map (remote_requested j remote (guard_id state output.number))
@@ -70,7 +70,8 @@ answered j p (Some reply) =
     at_remote (record { place = Due (guard_id p.state 0); vars = p.vars; slot = None }) None
 
 module _ (setting : Setting) (j : ℕ) (remote : RemoteState) where
-  -- by its first open input of the message; without one it nacks
+  -- Remote j answers by this guard, its first open input of the request's message; without one it
+  -- nacks.
   abbrev pub answered_by : Request → Option Chosen → RemoteOutcome
   answered_by request (Some input) =
       let rule = input.rule in
@@ -78,7 +79,7 @@ module _ (setting : Setting) (j : ℕ) (remote : RemoteState) where
       answered j now (reply_to setting request.message)
   answered_by request None = at_remote (without_slot remote) (put_on (Up j) packet.Nack)
 
-  -- only where the state is passive
+  -- Remote j answers, where its state has no output; an active state answers nothing.
   abbrev pub answered_in : Request → Option Chosen → Option RemoteOutcome
   answered_in request None =
       Some (answered_by request (answering_guard setting.protocol.remote remote))
@@ -100,8 +101,8 @@ module _ (setting : Setting) (j : ℕ) (remote : RemoteState) where
       let now = after_guard setting.protocol.remote remote.vars rule rule.next 0 value.Unit in
       at_remote (remote_at remote now) (put_on (Up j) (packet.Reply message.0 message.1))
 
-  -- by the guard that the place names, where the remote is due; none where it isn't, and where the
-  -- place names no output
+  -- The remote sends the reply by the guard that its place names, where it is due; none where it
+  -- isn't, and where the place names no output.
   abbrev pub replied_at : Place → Option RemoteOutcome
   replied_at (Comm state) = None
   replied_at (Trans g) = None
@@ -145,7 +146,7 @@ down_at body remote (Comm state) arrived = down_idle remote arrived
 down_at body remote (Trans g) arrived = down_waiting body remote g arrived
 down_at body remote (Due g) arrived = remote
 
--- Down(j): this packet arrives.
+-- Down(j): this packet arrives at the remote.
 unfoldable pub down : Setting → RemoteState → Packet → RemoteOutcome
 down setting remote arrived =
     at_remote (down_at setting.protocol.remote remote remote.place arrived) None

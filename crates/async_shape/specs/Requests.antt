@@ -22,6 +22,7 @@ abbrev pub state_of_home : HomePlace → ℕ
 state_of_home (Idle state) = state
 state_of_home (Waits waiting) = waiting.by.state
 
+-- the home waits for an answer
 abbrev pub is_waiting : HomePlace → Bool
 is_waiting (Idle state) = false
 is_waiting (Waits waiting) = true
@@ -65,12 +66,12 @@ module _ (n : ℕ) (body : Body) (home : HomeState) where
 
   -- Of k slots, the request is kept in one that is free: the ack slot of a waiting home isn't, and
   -- the last one besides it, the progress slot, is for a request that completes a guard.
-  abbrev pub admits : ℕ → List Held → Held → Bool
-  admits k held request =
+  abbrev pub is_admitted : ℕ → List Held → Held → Bool
+  is_admitted k held request =
       admission.admits (admission.free k (length held) (is_waiting home.place)) (completes request)
 
-  -- It displaces the last held request where the home is idle and full, it completes a guard, and
-  -- no held request does.
+  -- The request displaces the last held one where the home is idle and full, it completes a guard,
+  -- and no held request does.
   abbrev pub displaces : ℕ → List Held → Held → Bool
   displaces k held request =
       not (is_waiting home.place)

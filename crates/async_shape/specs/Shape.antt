@@ -69,6 +69,7 @@ pub record IsWhole (setting : Setting) (c : Config) : Type 0 where
   pub home_vars : AreOfKinds setting.protocol.home.vars c.home.vars
   pub held : AreHeld setting.protocol setting.slots (count_of c) c.held
 
+-- the parts of the shape: that for the whole, and a case for each remote
 pub record IsShapedSo (setting : Setting) (c : Config) : Type 0 where
   pub whole : IsWhole setting c
   pub cases : (j : ℕ) → j < count_of c → Case setting (view_at setting.protocol c j)

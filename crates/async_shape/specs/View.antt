@@ -15,6 +15,7 @@ use Rattle.async_shape.specs.declared.config.HomePlace.TheVariants.{Idle, Waits}
 use Rattle.async_shape.specs.declared.config.RemoteState.{RemoteState}
 use Rattle.async_shape.specs.declared.config.Request.{Request}
 
+-- the remote, its two links, and what the home holds of it, owes to it and waits for
 pub record View : Type 0 where
   pub remote : RemoteState
   -- the request that the home waits for this remote to answer; none where it doesn't wait on it
@@ -35,10 +36,11 @@ awaited_at protocol home (Waits waiting) j =
     then request_by protocol.messages protocol.home home.vars waiting.by
     else None
 
+-- a held request without its sender
 abbrev pub held_request : Held → Request
 held_request held = record { message = held.message; value = held.value }
 
--- a remote that is asked for past the last one
+-- what stands for a remote past the last one
 abbrev pub nobody : RemoteState
 nobody = record { place = Comm 0; vars = []; slot = None }
 

@@ -24,14 +24,15 @@ use Rattle.proto_model.specs.declared.numbered.VarInfo.{VarInfo}
 use Rattle.proto_model.specs.declared.numbered.MessageInfo.{MessageInfo}
 use Rattle.async_shape.specs.Setting.{Setting}
 
--- the protocol in this mode, with so many slots
+-- the protocol in mode lean, with so many slots
 abbrev pub lean : NumberedProtocol → ℕ → Setting
 lean protocol slots = record { protocol = protocol; mode = Lean; slots = slots }
 
+-- the protocol in mode plain, with so many slots
 abbrev pub plain : NumberedProtocol → ℕ → Setting
 plain protocol slots = record { protocol = protocol; mode = Plain; slots = slots }
 
--- a message
+-- a message, the way that it goes, and what it carries
 abbrev pub message : Text → Bool → Carry → MessageInfo
 message name up carries = record { name = name; up = up; carries = carries }
 
@@ -39,6 +40,7 @@ message name up carries = record { name = name; up = up; carries = carries }
 abbrev pub declared : Text → VarKind → Value → VarInfo
 declared name kind first = record { name = name; kind = kind; first = first }
 
+-- a state with its guards
 abbrev pub state : Text → List Rule → StateInfo
 state name rules = record { name = name; rules = rules }
 

@@ -4,5 +4,6 @@ use Rattle.controller_table.specs.declared.rows.Place.{Place}
 use Rattle.controller_table.specs.declared.rows.Trigger.{Trigger}
 use Rattle.async_shape.specs.Fired.{Mover, Firing}
 
+-- the process fires the row with this place and trigger, and this value
 abbrev pub firing : Mover → Place → Trigger → Value → Firing
 firing mover at on v = record { mover = mover; at = at; on = on; value = v }

@@ -11,7 +11,7 @@ use Rattle.proto_model.specs.declared.numbered.MessageInfo.{MessageInfo}
 use Rattle.controller_table.specs.Keys.{NoTwoShareKey}
 use Rattle.controller_table.specs.Rows.{home_rows, remote_rows}
 use Rattle.controller_table.specs.Sound.{Tabled, IsSound, MakesTable, with_nexts, next_by}
-use Rattle.controller_table.specs.Sound.{told_by_rows, protocol_of, protocol_with, table_of}
+use Rattle.controller_table.specs.Sound.{bare_controller, protocol_of, protocol_with, table_of}
 use Rattle.controller_table.specs.declared.controller.Controller.{Controller}
 use Rattle.controller_table.specs.declared.rows.Row.{Row}
 use Rattle.controller_table.proofs.Apart.{apart-places}
@@ -73,15 +73,15 @@ module _ (name : Text) (mode : Mode) (messages : List MessageInfo) (replies : Li
       subst NoTwoShareKey (sym makes.same_remote)
       (apart-places (remote_rows whole mode) (remote_rows-apart messages (replies_of whole mode) remote.body))
 
-  -- ---- the table with controllers that are told by their rows
+  -- ---- the table with controllers whose bodies say of no guard where it goes
 
-  module _ (first second : Controller) (first-is : first ≡ told_by_rows home)
-      (second-is : second ≡ told_by_rows remote) where
+  module _ (first second : Controller) (first-is : first ≡ bare_controller home)
+      (second-is : second ≡ bare_controller remote) where
     same-table : made_with first second ≡ made
     same-table = cc
 
-    pub told-sound : IsSound (made_with first second)
-    told-sound = subst IsSound (sym same-table) made-sound
+    pub bare-sound : IsSound (made_with first second)
+    bare-sound = subst IsSound (sym same-table) made-sound
 
-    pub told-protocol : protocol_of (made_with first second) ≡ whole
-    told-protocol = ap (λ (table : Tabled). protocol_of table) same-table ∙ made-protocol
+    pub bare-protocol : protocol_of (made_with first second) ≡ whole
+    bare-protocol = ap (λ (table : Tabled). protocol_of table) same-table ∙ made-protocol

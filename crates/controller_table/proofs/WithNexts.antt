@@ -33,10 +33,10 @@ map_from-map_from first second from (item ∷ items) same =
     let rest = map_from-map_from first second (from + 1) items same in
     cc
 
-abbrev pub with_states : Body → List StateInfo → Body
+abbrev with_states : Body → List StateInfo → Body
 with_states body states = record { vars = body.vars; start = body.start; states = states }
 
-abbrev with_rules : StateInfo → List Rule → StateInfo
+abbrev pub with_rules : StateInfo → List Rule → StateInfo
 with_rules info rules = record { name = info.name; rules = rules }
 
 abbrev to_next : Rule → ℕ → Rule

@@ -17,4 +17,5 @@ NoneHasKey at on rows = AllByRecursion (λ row. HasKey at on row → ⊥) rows
 abbrev pub IsOnlyRow : List Row → Place → Trigger → Option Row → Type 0
 IsOnlyRow rows at on None = NoneHasKey at on rows
 IsOnlyRow rows at on (Some row) =
-    HasKey at on row × (before : List Row) × (after : List Row) × (rows ≡ before ++ row ∷ after) × NoneHasKey at on before × NoneHasKey at on after
+    HasKey at on row × (before : List Row) × (after : List Row) × (rows ≡ before ++ row ∷ after)
+    × NoneHasKey at on before × NoneHasKey at on after

@@ -28,9 +28,12 @@ use Rattle.controller_table.specs.declared.rows.Does.{Does}
 use Rattle.controller_table.specs.declared.rows.Does.TheVariants as does
 use Rattle.controller_table.specs.declared.rows.Row.{Row}
 
+-- the guard with this number in this state
 abbrev pub guard_id : ℕ → ℕ → GuardId
 guard_id state guard = record { state = state; guard = guard }
 
+-- A row: where the controller stands and what makes it move; what it puts, the guards that it
+-- completes, and where it stands then.
 abbrev pub row : Place → Trigger → Puts → Does → Place → Row
 row at on what done to = record { at = at; on = on; puts = what; does = done; to = to }
 
@@ -99,6 +102,7 @@ take_row g rule reply =
 abbrev pub pay_row : GuardId → Rule → ℕ → Row
 pay_row g rule m = row (Comm g.state) (Pay g.guard) (puts.Reply m) (does.One g) (Comm rule.next)
 
+-- the row of paying where the message is the reply of some up message; else none
 abbrev pub pay_rows : Bool → GuardId → Rule → ℕ → List Row
 pay_rows false g rule m = []
 pay_rows true g rule m = pay_row g rule m ∷ []
@@ -109,6 +113,7 @@ pay_rows true g rule m = pay_row g rule m ∷ []
 abbrev pub due_row : GuardId → Rule → ℕ → Row
 due_row g rule q = row (Due g) (Send g.guard) (puts.Reply q) (does.One g) (Comm rule.next)
 
+-- the row of a due remote where the message is the reply of some down message; else none
 abbrev pub due_rows : Bool → GuardId → Rule → ℕ → List Row
 due_rows false g rule q = []
 due_rows true g rule q = due_row g rule q ∷ []
@@ -125,6 +130,7 @@ answer_row g rule (Some p) =
 abbrev pub last_row : ℕ → Row
 last_row state = row (Comm state) AnswerNone puts.Nack does.Nothing (Comm state)
 
+-- the last row of a passive state; an active one has none
 abbrev pub last_rows : Bool → ℕ → List Row
 last_rows true state = []
 last_rows false state = last_row state ∷ []
@@ -137,20 +143,26 @@ is_active info = list_any (λ rule. is_output_kind rule.kind) info.rules
 
 -- of the messages of a protocol and the reply of each
 module _ (messages : List MessageInfo) (replies : List (Option ℕ)) where
+  -- The rows of an output of message m by which the home sends: the request, its answer (an ack, or
+  -- the reply of m), a nack, a request of the remote on which it waits, which is a nack too, and
+  -- where m is a reply the row of paying.
   abbrev pub home_output_rows : Body → GuardId → Rule → ℕ → List Row
   home_output_rows body g rule m =
       send_row g m ∷ answered_row body g rule (reply_at replies m) ∷ back_row g GotNack
       ∷ back_row g GotRequest ∷ pay_rows (is_reply_down messages replies m) g rule m
 
+  -- the rows of a guard of the home, by what the guard does
   abbrev pub home_action_rows : Body → GuardId → Rule → RuleKind → List Row
   home_action_rows body g rule action.Tau = tau_row g rule ∷ []
   home_action_rows body g rule (action.Input p m bound) = take_row g rule (reply_at replies m) ∷ []
   home_action_rows body g rule (action.Output p m sent) = home_output_rows body g rule m
 
+  -- the rows of the guard with this number in this state
   abbrev pub home_guard_rows : Body → ℕ → ℕ → Rule → List Row
   home_guard_rows body state guard rule =
       home_action_rows body (guard_id state guard) rule rule.kind
 
+  -- the rows of a state: those of each of its guards, in file order
   abbrev pub home_state_rows : Body → ℕ → StateInfo → List Row
   home_state_rows body state info = flat_from (home_guard_rows body state) 0 info.rules
 
@@ -158,21 +170,28 @@ module _ (messages : List MessageInfo) (replies : List (Option ℕ)) where
   abbrev pub home_rows_of : Body → List Row
   home_rows_of body = flat_from (home_state_rows body) 0 body.states
 
+  -- The rows of an output of message q by which a remote sends: the request, its answer (an ack, or
+  -- the reply of q), a nack, and the row of a due remote, where q is a reply. It has no row for a
+  -- request of the home that comes while it waits: that is dropped.
   abbrev pub remote_output_rows : Body → GuardId → Rule → ℕ → List Row
   remote_output_rows body g rule q =
       send_row g q ∷ answered_row body g rule (reply_at replies q) ∷ back_row g GotNack
       ∷ due_rows (is_reply_up messages replies q) g rule q
 
+  -- the rows of a guard of a remote, by what the guard does
   abbrev pub remote_action_rows : Body → GuardId → Rule → RuleKind → List Row
   remote_action_rows body g rule action.Tau = tau_row g rule ∷ []
   remote_action_rows body g rule (action.Input p m bound) =
       answer_row g rule (reply_at replies m) ∷ []
   remote_action_rows body g rule (action.Output p q sent) = remote_output_rows body g rule q
 
+  -- the rows of the guard with this number in this state
   abbrev pub remote_guard_rows : Body → ℕ → ℕ → Rule → List Row
   remote_guard_rows body state guard rule =
       remote_action_rows body (guard_id state guard) rule rule.kind
 
+  -- the rows of a state: those of each of its guards, in file order, and the last row of a passive
+  -- state
   abbrev pub remote_state_rows : Body → ℕ → StateInfo → List Row
   remote_state_rows body state info =
       flat_from (remote_guard_rows body state) 0 info.rules ++ last_rows (is_active info) state

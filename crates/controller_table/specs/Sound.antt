@@ -1,5 +1,5 @@
 -- What a table is, the protocol that its rows tell, and when it is sound.
-use Rattle.std.specs.Prelude.{◌≡◌, ℕ, ◌+◌, Bool, false, ◌&&◌, ◌==◌, List, [], ◌∷◌, Option, find}
+use Rattle.std.specs.Prelude.{◌≡◌, ℕ, Bool, false, ◌&&◌, ◌==◌, List, Option, find}
 use Rattle.std.specs.Option.{option_map_or}
 use Rattle.rv_base.specs.Lists.{map_from}
 use Rattle.proto_model.specs.Tokens.{Text}
@@ -53,6 +53,7 @@ state_of (Comm state) = state
 state_of (Trans g) = g.state
 state_of (Due g) = g.state
 
+-- both are the guard with the same number in the same state
 abbrev pub same_guard : GuardId → GuardId → Bool
 same_guard g h = g.state == h.state && g.guard == h.guard
 
@@ -75,6 +76,7 @@ abbrev pub next_by : List Row → GuardId → ℕ
 next_by rows g =
     option_map_or (λ row. goes_to row.does row.to) (find (λ row. begins_with g row.does) rows) 0
 
+-- the body of a controller in which each guard goes where the rows tell
 abbrev pub body_by_rows : Controller → Body
 body_by_rows controller = with_nexts (next_by controller.rows) controller.body
 
@@ -99,19 +101,25 @@ pub record IsSound (table : Tabled) : Type 0 where
 
 -- the protocol of which these are the messages and the bodies
 abbrev pub protocol_with : Text → List MessageInfo → Controller → Controller → NumberedProtocol
-protocol_with name messages home remote = record { name = name; messages = messages; home = home.body; remote = remote.body }
+protocol_with name messages home remote = record {
+  name = name;
+  messages = messages;
+  home = home.body;
+  remote = remote.body;
+}
 
 -- These parts make a table in this mode: they are those of a proper protocol, with its replies and
 -- its rows.
-pub record MakesTable (name : Text) (mode : Mode) (messages : List MessageInfo) (replies : List (Option ℕ)) (home remote : Controller) : Type 0 where
+pub record MakesTable (name : Text) (mode : Mode) (messages : List MessageInfo)
+    (replies : List (Option ℕ)) (home remote : Controller) : Type 0 where
   pub proper : IsProper (protocol_with name messages home remote)
   pub same_replies : replies ≡ replies_of (protocol_with name messages home remote) mode
   pub same_home : home.rows ≡ home_rows (protocol_with name messages home remote) mode
   pub same_remote : remote.rows ≡ remote_rows (protocol_with name messages home remote) mode
 
 -- the controller with the same rows, whose body says of no guard where it goes
-abbrev pub told_by_rows : Controller → Controller
-told_by_rows controller = record { body = bare_body controller.body; rows = controller.rows }
+abbrev pub bare_controller : Controller → Controller
+bare_controller controller = record { body = bare_body controller.body; rows = controller.rows }
 
 -- the table of these parts
 abbrev pub table_of : Text → Mode → List MessageInfo → List (Option ℕ) → Controller → Controller
@@ -121,8 +129,8 @@ table_of name mode messages replies home remote = record {
   mode = mode;
   messages = messages;
   replies = replies;
-  home = told_by_rows home;
-  remote = told_by_rows remote;
+  home = bare_controller home;
+  remote = bare_controller remote;
 }
 
 -- the table of a protocol in a mode

@@ -1,76 +1,42 @@
 //! Bodies that say of no guard where it goes: `next` of each is 0.
 
-ghost use Rattle.std.specs.Prelude.{◌≡◌, map, IfOk};
-ghost use Rattle.proto_model.specs.Guards.{bare_rule, bare_state, bare_body as the_bare_body};
-ghost use Rattle.controller_table.specs.Sound.{told_by_rows};
+ghost use Rattle.std.specs.Prelude.{◌≡◌, map};
+ghost use Rattle.proto_model.specs.Guards.{bare_rule, bare_state, bare_body};
+ghost use Rattle.controller_table.specs.Sound.{bare_controller};
 
 use crate::controller::Controller;
 use proto_model::{Body, Rule, StateInfo};
-use rv_base::{Items, NoMemory};
-use std::alloc::Global;
 
-// A copy of the items.
-fn copied<T: Copy + Drop>(alloc: Global, items: &[T]) -> Result<Items<T>, NoMemory>
-    ensures { IfOk result (λ copies. copies ≡ items.now) }
+// Clears `next` of each rule.
+fn clear_rules(rules: &mut [Rule])
+    ensures { rules.new ≡ map bare_rule rules.old }
 {
-    let mut copies = Items::new(alloc);
-    for item in items {
-        copies.push(*item)?;
+    for rule in rules.iter_mut() {
+        rule.next = 0;
     }
-    Ok(copies)
 }
 
-fn bare_rules(alloc: Global, rules: &[Rule]) -> Result<Items<Rule>, NoMemory>
-    ensures { IfOk result (λ bare. bare ≡ map bare_rule rules.now) }
+// Clears `next` of each rule of the states.
+fn clear_states(states: &mut [StateInfo])
+    ensures { states.new ≡ map bare_state states.old }
 {
-    let mut bare = Items::new(alloc);
-    for rule in rules {
-        bare.push(Rule {
-            kind: rule.kind,
-            conds: copied(alloc, rule.conds.as_slice())?,
-            assigns: copied(alloc, rule.assigns.as_slice())?,
-            next: 0,
-        })?;
+    for state in states.iter_mut() {
+        clear_rules(state.rules.as_mut_slice());
     }
-    Ok(bare)
 }
 
-fn bare_states(alloc: Global, states: &[StateInfo]) -> Result<Items<StateInfo>, NoMemory>
-    ensures { IfOk result (λ bare. bare ≡ map bare_state states.now) }
+// Clears `next` of each rule of the body.
+fn clear_body(body: &mut Body)
+    ensures { body.new ≡ bare_body body.old }
 {
-    let mut bare = Items::new(alloc);
-    for state in states {
-        bare.push(StateInfo {
-            name: state.name.copy(alloc)?,
-            rules: bare_rules(alloc, state.rules.as_slice())?,
-        })?;
-    }
-    Ok(bare)
-}
-
-fn bare_body(alloc: Global, body: Body) -> Result<Body, NoMemory>
-    ensures { IfOk result (λ bare. bare ≡ the_bare_body body) }
-{
-    let Body {
-        vars,
-        start,
-        states,
-    } = body;
-    let states = bare_states(alloc, states.as_slice())?;
-    Ok(Body {
-        vars,
-        start,
-        states,
-    })
+    clear_states(body.states.as_mut_slice());
 }
 
 impl Controller {
-    /// The controller with the same rows, which alone tell where a guard goes.
-    pub(crate) fn bare(self, alloc: Global) -> Result<Controller, NoMemory>
-        ensures { IfOk result (λ bare. bare ≡ told_by_rows self) }
+    /// Clears where its guards go, which its rows alone tell then. Takes no memory.
+    pub(crate) fn clear(&mut self)
+        ensures { self.new ≡ bare_controller self.old }
     {
-        let Controller { body, rows } = self;
-        let body = bare_body(alloc, body)?;
-        Ok(Controller { body, rows })
+        clear_body(&mut self.body);
     }
 }

@@ -62,8 +62,8 @@ impl Table {
         mode: Mode,
         messages: Items<MessageInfo>,
         replies: Items<Option<u8>>,
-        home: Controller,
-        remote: Controller,
+        mut home: Controller,
+        mut remote: Controller,
     ) -> Result<Table, NoMemory>
         requires { MakesTable name mode messages replies home remote }
         ensures parts { IfOk result (λ t. t ≡ table_of name mode messages replies home remote) }
@@ -72,8 +72,8 @@ impl Table {
     {
         let home_index = Index::new(alloc, home.rows.as_slice())?;
         let remote_index = Index::new(alloc, remote.rows.as_slice())?;
-        let home = home.bare(alloc)?;
-        let remote = remote.bare(alloc)?;
+        home.clear();
+        remote.clear();
         Ok(Table {
             name,
             mode,

@@ -9,8 +9,8 @@ ghost use Rattle.controller_table.specs.Rows as spec;
 use controller_table::{Does, GuardId, Place, Puts, Row, Trigger};
 use proto_model::{Rule, RuleKind, StateInfo};
 use remote_refine::{
-    GuardRows, PairedBody, StateRows, all_replies, answered_row, back_row, push_guards,
-    push_states, send_row, tau_row,
+    GuardRows, PairedBody, StateRows, all_replies, back_row, push_guards, push_sending,
+    push_states, tau_row,
 };
 use request_reply::Pairs;
 use rv_base::{Items, NoMemory};
@@ -58,9 +58,7 @@ fn push_output(
     ensures { OnOk result (rows.new ≡ rows.old ++ spec.home_output_rows of.now.messages.now
         of.now.replies.now of.now.body.now guard rule.now message) }
 {
-    rows.push(send_row(guard, message))?;
-    rows.push(answered_row(of.body, guard, rule, of.reply(message)))?;
-    rows.push(back_row(guard, Trigger::GotNack))?;
+    push_sending(rows, of, guard, rule, message)?;
     rows.push(back_row(guard, Trigger::GotRequest))?;
     if of.is_reply_down(message) {
         rows.push(pay_row(guard, rule, message))?;

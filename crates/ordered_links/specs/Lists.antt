@@ -32,8 +32,8 @@ with_packets (Down j) packets links =
     slice_set links j (record (links_at links j) { down = packets })
 
 -- The first packet of a list, if there is one.
-abbrev pub first : List Packet → Option Packet
-first packets = slice_get packets 0
+abbrev pub first_packet : List Packet → Option Packet
+first_packet packets = slice_get packets 0
 
 -- A put: the packet stands at the end of this link's list.
 abbrev pub after_put : Link → Packet → List LinkPair → List LinkPair
@@ -50,4 +50,4 @@ IsPut old link packet new = new ≡ after_put link packet old
 -- A take that does what it does to the lists, and no more can be said of it.
 abbrev pub IsTaken : List LinkPair → Link → Option Packet → List LinkPair → Type 0
 IsTaken old link answer new =
-    (answer ≡ first (packets_on link old)) × (new ≡ after_take link old)
+    (answer ≡ first_packet (packets_on link old)) × (new ≡ after_take link old)

@@ -4,7 +4,8 @@ ghost use Rattle.std.specs.Prelude.{◌≡◌, ◌<◌, ◌↔◌, [], ℕ, List
 ghost use Rattle.std.specs.Prelude.{IsNone, IfNone};
 ghost use Rattle.ordered_links.specs.declared.packet.Packet.{Packet};
 ghost use Rattle.ordered_links.specs.Link.{Link, Up, Down};
-ghost use Rattle.ordered_links.specs.Lists.{LinkPair, packets_on, after_put, after_take, first};
+ghost use Rattle.ordered_links.specs.Lists.{LinkPair, packets_on, first_packet};
+ghost use Rattle.ordered_links.specs.Lists.{after_put, after_take};
 
 use crate::packet::Packet;
 
@@ -47,7 +48,7 @@ pub trait Links: Drop {
     /// then no list changes.
     fn take_up(&mut self, j: u8) -> Option<Packet>
         requires { j < length (lists self.old) }
-        ensures value { result ≡ first (packets_on (Up j) (lists self.old)) }
+        ensures value { result ≡ first_packet (packets_on (Up j) (lists self.old)) }
         ensures none { IsNone result ↔ (packets_on (Up j) (lists self.old) ≡ []) }
         ensures lists { lists self.new ≡ after_take (Up j) (lists self.old) }
         ensures unchanged { IfNone result (lists self.new ≡ lists self.old) }
@@ -57,7 +58,7 @@ pub trait Links: Drop {
     /// then no list changes.
     fn take_down(&mut self, j: u8) -> Option<Packet>
         requires { j < length (lists self.old) }
-        ensures value { result ≡ first (packets_on (Down j) (lists self.old)) }
+        ensures value { result ≡ first_packet (packets_on (Down j) (lists self.old)) }
         ensures none { IsNone result ↔ (packets_on (Down j) (lists self.old) ≡ []) }
         ensures lists { lists self.new ≡ after_take (Down j) (lists self.old) }
         ensures unchanged { IfNone result (lists self.new ≡ lists self.old) }

@@ -2,7 +2,7 @@
 
 ghost use Rattle.std.specs.Prelude.{◌≡◌, ◌<◌, ◌≤◌, ◌++◌, ◌∷◌, [], drop, length, replicate};
 ghost use Rattle.std.specs.Prelude.{slice_get, IfOk};
-ghost use Rattle.ordered_links.specs.Lists.{LinkPair, no_packets, first};
+ghost use Rattle.ordered_links.specs.Lists.{LinkPair, no_packets, first_packet};
 
 use crate::links::Links;
 use crate::packet::Packet;
@@ -55,14 +55,14 @@ impl Pair {
     }
 
     fn take_up(&mut self) -> Option<Packet>
-        ensures value { result ≡ first self.old.up }
+        ensures value { result ≡ first_packet self.old.up }
         ensures rest { self.new ≡ record self.old { up = drop 1 self.old.up } }
     {
         self.up.pop_front()
     }
 
     fn take_down(&mut self) -> Option<Packet>
-        ensures value { result ≡ first self.old.down }
+        ensures value { result ≡ first_packet self.old.down }
         ensures rest { self.new ≡ record self.old { down = drop 1 self.old.down } }
     {
         self.down.pop_front()

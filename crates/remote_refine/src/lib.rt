@@ -13,7 +13,7 @@ mod remote;
 mod replies;
 mod states;
 
-pub use both_sides::{answered_row, back_row, send_row, tau_row};
+pub use both_sides::{back_row, push_sending, tau_row};
 pub use paired_body::PairedBody;
 pub use remote::{remote_rows, remote_rows_of};
 pub use replies::all_replies;

@@ -6,7 +6,7 @@ ghost use Rattle.proto_model.specs.declared.numbered.Side.TheVariants as side;
 ghost use Rattle.request_reply.specs.Pairs.{replies_in};
 ghost use Rattle.controller_table.specs.Rows as spec;
 
-use crate::both_sides::{answered_row, back_row, only_guard, send_row, tau_row};
+use crate::both_sides::{only_guard, push_sending, tau_row};
 use crate::paired_body::PairedBody;
 use crate::replies::all_replies;
 use crate::states::{GuardRows, StateRows, push_guards, push_states};
@@ -71,9 +71,7 @@ fn push_output(
     ensures { OnOk result (rows.new ≡ rows.old ++ spec.remote_output_rows of.now.messages.now
         of.now.replies.now of.now.body.now guard rule.now message) }
 {
-    rows.push(send_row(guard, message))?;
-    rows.push(answered_row(of.body, guard, rule, of.reply(message)))?;
-    rows.push(back_row(guard, Trigger::GotNack))?;
+    push_sending(rows, of, guard, rule, message)?;
     if of.is_reply_up(message) {
         rows.push(due_row(guard, rule, message))?;
     }

@@ -1,5 +1,5 @@
 -- The message of each rule of a proper process is one of the protocol's.
-use Rattle.std.proofs.Common.{◌≡◌, ℕ, ◌<◌, List, [], ◌∷◌, length, IfSome, refl}
+use Rattle.std.proofs.Common.{◌≡◌, ℕ, ◌<◌, List, [], ◌∷◌, length, IfSome}
 use Rattle.std.specs.List.{AllByRecursion}
 use Rattle.proto_model.specs.ValueTypes.{message_in, message_out}
 use Rattle.proto_model.specs.Proper.{IsActionInRange, IsProperBody, IsProperState, IsProperRule}

@@ -1,6 +1,6 @@
 -- In a proper protocol a message and the reply to which its rules lead go in different directions.
 use Rattle.std.proofs.Common.{◌≡◌, ℕ, ◌==◌, ◌&&◌, ◌||◌, not, Bool, true, false, cond, List, [], ◌∷◌}
-use Rattle.std.proofs.Common.{◌++◌, length, flat_map, Option, Some, None, option_and_then}
+use Rattle.std.proofs.Common.{length, flat_map, Option, Some, None, option_and_then}
 use Rattle.std.proofs.Common.{slice_get, refl, subst}
 use Rattle.std.specs.Option.{option_map_or}
 use Rattle.std.specs.List.{list_any, AllByRecursion}

@@ -47,6 +47,7 @@ module _ (look : Look) (body : Body) where
   after_rule m before rule =
       if is_of look m rule then after before (reply_behind look body rule) else before
 
+  -- what is kept of message m after these rules, in order
   abbrev pub after_rules : ℕ → Candidate → List Rule → Candidate
   after_rules m before [] = before
   after_rules m before (rule ∷ rules) = after_rules m (after_rule m before rule) rules
@@ -61,6 +62,7 @@ module _ (look : Look) (body : Body) where
       option_map_or (noted_at candidates (reply_behind look body rule))
       (message_at look rule) candidates
 
+  -- what is kept of all messages after these rules, in order
   abbrev pub noted_all : List Candidate → List Rule → List Candidate
   noted_all candidates [] = candidates
   noted_all candidates (rule ∷ rules) = noted_all (noted candidates rule) rules

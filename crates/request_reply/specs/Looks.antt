@@ -1,6 +1,6 @@
 -- Which guards a pass looks at, and the reply to which such a guard leads.
 use Rattle.std.specs.Prelude.{ℕ, ◌<◌, if◌then◌else◌}
-use Rattle.std.specs.Prelude.{Option, Some, None, option_and_then, IfSome}
+use Rattle.std.specs.Prelude.{Option, None, option_and_then, IfSome}
 use Rattle.std.specs.List.{AllByRecursion}
 use Rattle.proto_model.specs.Guards.{only_next}
 use Rattle.proto_model.specs.ValueTypes.{message_in, message_out}

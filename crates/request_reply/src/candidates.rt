@@ -79,6 +79,7 @@ impl Look {
         }
     }
 
+    // Notes these guards of the process, one after the other.
     fn note_rules(self, body: &Body, candidates: &mut Items<Candidate>, rules: &[Rule])
         requires { AllByRecursion (IsAmong (length candidates.old) self) rules.now }
         ensures { candidates.new ≡ spec.noted_all self body.now candidates.old rules.now }

@@ -19,6 +19,7 @@ pub(crate) enum Look {
     RemoteInputs,
 }
 
+// The message of an output.
 fn message_out(kind: RuleKind) -> Option<u8>
     ensures { result ≡ types.message_out kind }
 {
@@ -28,6 +29,7 @@ fn message_out(kind: RuleKind) -> Option<u8>
     }
 }
 
+// The message of an input.
 fn message_in(kind: RuleKind) -> Option<u8>
     ensures { result ≡ types.message_in kind }
 {
@@ -37,6 +39,7 @@ fn message_in(kind: RuleKind) -> Option<u8>
     }
 }
 
+// The variable that names the remote met.
 fn partner_var(partner: RulePartner) -> Option<u8>
     ensures { result ≡ pairs.partner_var partner }
 {
@@ -46,6 +49,7 @@ fn partner_var(partner: RulePartner) -> Option<u8>
     }
 }
 
+// The variable that names the remote to which an output goes.
 fn output_var(kind: RuleKind) -> Option<u8>
     ensures { result ≡ pairs.output_var kind }
 {
@@ -55,6 +59,7 @@ fn output_var(kind: RuleKind) -> Option<u8>
     }
 }
 
+// The partner is the remote that the variable holds.
 fn is_held_by(var: u8, partner: RulePartner) -> bool
     ensures { result ≡ pairs.is_held_by var partner }
 {
@@ -64,6 +69,7 @@ fn is_held_by(var: u8, partner: RulePartner) -> bool
     }
 }
 
+// The guard is an input from the remote that the variable holds.
 fn is_from(var: u8, kind: RuleKind) -> bool
     ensures { result ≡ pairs.is_from var kind }
 {
@@ -73,6 +79,7 @@ fn is_from(var: u8, kind: RuleKind) -> bool
     }
 }
 
+// The guard assigns no value to the variable.
 fn leaves_alone(var: u8, rule: &Rule) -> bool
     ensures { result ≡ pairs.leaves_alone var rule.now }
 {

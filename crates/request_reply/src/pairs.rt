@@ -49,6 +49,7 @@ pub fn down_pairs(alloc: Global, checked: &Checked) -> Result<Items<Option<u8>>,
     Ok(replies)
 }
 
+// No message has a reply.
 fn no_pairs(alloc: Global, count: usize) -> Result<Items<Option<u8>>, NoMemory>
     ensures { IfOk result (λ replies. replies ≡ replicate count None) }
 {

@@ -5,12 +5,12 @@ use Rattle.std.specs.List.{find, AllByRecursion}
 use Rattle.slot_reserve.specs.declared.held.Held.{Held}
 
 -- This remote sent the request.
-abbrev pub is_from : ℕ → Held → Bool
-is_from from request = request.from == from
+abbrev pub is_sent_by : ℕ → Held → Bool
+is_sent_by from request = request.from == from
 
 -- The first request of this remote, if it has one.
 abbrev pub first_of : ℕ → List Held → Option Held
-first_of from held = find (is_from from) held
+first_of from held = find (is_sent_by from) held
 
 -- This remote has no request among these.
 abbrev pub HasNone : ℕ → List Held → Type 0
@@ -26,7 +26,7 @@ OneOfEach (request ∷ held) = HasNone request.from held × OneOfEach held
 abbrev pub without_first : ℕ → List Held → List Held
 without_first from [] = []
 without_first from (request ∷ held) =
-    if is_from from request then held else request ∷ without_first from held
+    if is_sent_by from request then held else request ∷ without_first from held
 
 -- The last of the requests, if there is one.
 abbrev pub last_of : List Held → Option Held

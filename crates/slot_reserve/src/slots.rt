@@ -5,7 +5,7 @@ ghost use Rattle.std.specs.Prelude.{length, IsTrue, IsNone, IfOk, IfNone};
 ghost use Rattle.std.specs.List.{find, position};
 ghost use Rattle.slot_reserve.specs.Admission as admission;
 ghost use Rattle.slot_reserve.specs.Admission.{admits};
-ghost use Rattle.slot_reserve.specs.Requests.{is_from, first_of, without_first, last_of};
+ghost use Rattle.slot_reserve.specs.Requests.{is_sent_by, first_of, without_first, last_of};
 ghost use Rattle.slot_reserve.specs.Requests.{displaced, HasNone};
 
 use crate::held::{Admitted, Held};
@@ -95,8 +95,8 @@ impl Slots {
         }
     }
 
-    /// Holds the request last, whatever it completes: the one that crossed the home's own request,
-    /// for which the ack slot was kept.
+    /// A request comes that crossed the home's own: the remote that the home waits on sent it in
+    /// place of an answer. It is held last, in the ack slot, whatever it completes.
     pub fn cross(&mut self, request: Held)
         requires { length self.old.held < self.old.size }
         ensures { self.new ≡ record self.old { held = self.old.held ++ request ∷ [] } }
@@ -149,7 +149,7 @@ impl Slots {
 
 // The place of the first request of this remote.
 fn first_place(held: &[Held], from: u8) -> Option<usize>
-    ensures { result ≡ position (is_from from) held.now }
+    ensures { result ≡ position (is_sent_by from) held.now }
 {
     held.iter().position(|request| request.from == from)
 }

@@ -1,5 +1,5 @@
--- The five texts of a row: where it stands, what makes it move, what it puts, what it completes, and where
--- it stands then. The table's text and its JSON both show a row by these.
+-- The five texts of a row: where it stands, what makes it move, what it puts, what it completes,
+-- and where it stands then. The table's text and its JSON both show a row by these.
 use Rattle.std.specs.Prelude.{ℕ, List, [], ◌++◌, slice_get, codes, decimal}
 use Rattle.std.specs.Option.{option_map_or}
 use Rattle.proto_model.specs.Tokens.{Text}
@@ -10,7 +10,9 @@ use Rattle.controller_table.specs.declared.rows.GuardId.{GuardId}
 use Rattle.controller_table.specs.declared.rows.Place.{Place}
 use Rattle.controller_table.specs.declared.rows.Place.TheVariants.{Comm, Trans, Due}
 use Rattle.controller_table.specs.declared.rows.Trigger.{Trigger}
-use Rattle.controller_table.specs.declared.rows.Trigger.TheVariants.{Tau, Send, Pay, Take, Answer, AnswerNone, GotAck, GotNack, GotReply, GotRequest}
+use Rattle.controller_table.specs.declared.rows.Trigger.TheVariants.{Tau, Send, Pay, Take, Answer}
+use Rattle.controller_table.specs.declared.rows.Trigger.TheVariants.{AnswerNone, GotAck, GotNack}
+use Rattle.controller_table.specs.declared.rows.Trigger.TheVariants.{GotReply, GotRequest}
 use Rattle.controller_table.specs.declared.rows.Puts.{Puts}
 use Rattle.controller_table.specs.declared.rows.Puts.TheVariants as puts
 use Rattle.controller_table.specs.declared.rows.Does.{Does}
@@ -18,25 +20,28 @@ use Rattle.controller_table.specs.declared.rows.Does.TheVariants as does
 
 -- the name of the state at this place; no text where there is none, which a sound table has nowhere
 abbrev pub state_name : Body → ℕ → Text
-state_name body state = option_map_or (λ (info : StateInfo). info.name) (slice_get body.states state) []
+state_name body state =
+    option_map_or (λ (info : StateInfo). info.name) (slice_get body.states state) []
 
--- the name of the message at this place; no text where there is none, which a sound table has nowhere
+-- the name of the message at this place; no text where there is none, which a sound table has
+-- nowhere
 abbrev pub message_name : List MessageInfo → ℕ → Text
-message_name messages m = option_map_or (λ (info : MessageInfo). info.name) (slice_get messages m) []
+message_name messages m =
+    option_map_or (λ (info : MessageInfo). info.name) (slice_get messages m) []
 
 -- a guard: the name of its state, `/` and its number within the state
 abbrev pub guard_text : Body → GuardId → Text
 guard_text body g = state_name body g.state ++ (codes "/" ++ decimal g.guard)
 
--- A communication state is its name. A transient state is the guard whose request was sent, and `*`. A
--- due state is the guard that sends the reply, and `!`.
+-- A communication state is its name. A transient state is the guard whose request was sent, and
+-- `*`. A due state is the guard that sends the reply, and `!`.
 abbrev pub place_text : Body → Place → Text
 place_text body (Comm state) = state_name body state
 place_text body (Trans g) = guard_text body g ++ codes "*"
 place_text body (Due g) = guard_text body g ++ codes "!"
 
--- What makes the controller move: a step by a guard, whose number stands behind the word, or `answer none`
--- where no guard answers; or what came, and of a reply the name of the message.
+-- What makes the controller move: a step by a guard, whose number stands behind the word, or
+-- `answer none` where no guard answers; or what came, and of a reply the name of the message.
 abbrev pub trigger_text : List MessageInfo → Trigger → Text
 trigger_text messages (Tau g) = codes "tau " ++ decimal g
 trigger_text messages (Send g) = codes "send " ++ decimal g
@@ -49,8 +54,8 @@ trigger_text messages GotNack = codes "got nack"
 trigger_text messages (GotReply m) = codes "got reply " ++ message_name messages m
 trigger_text messages GotRequest = codes "got request"
 
--- What the controller puts on a link, or owes: a request, a reply and a debt are told with the name of the
--- message.
+-- What the controller puts on a link, or owes: a request, a reply and a debt are told with the name
+-- of the message.
 abbrev pub puts_text : List MessageInfo → Puts → Text
 puts_text messages puts.Nothing = codes "nothing"
 puts_text messages (puts.Request m) = codes "request " ++ message_name messages m

@@ -18,6 +18,7 @@ use Rattle.controller_table.specs.declared.controller.Controller.{Controller}
 use Rattle.table_printer.specs.RowText.{message_name, place_text, trigger_text, puts_text}
 use Rattle.table_printer.specs.RowText.{does_text}
 
+-- the name of the mode
 abbrev pub mode_text : Mode → Text
 mode_text Plain = codes "plain"
 mode_text Lean = codes "lean"
@@ -29,8 +30,8 @@ abbrev pub way_text : Bool → Text
 way_text true = codes "up"
 way_text false = codes "down"
 
--- what a message carries: `nothing`, or a type as it stands in a file, the numbers below n as `int
--- n`
+-- what a message carries: `nothing`, or a type as it stands in a file, with `int n` for the numbers
+-- below n
 abbrev pub carries_text : Carry → Text
 carries_text carry.Nothing = codes "nothing"
 carries_text (carry.Int n) = codes "int " ++ decimal n
@@ -53,7 +54,8 @@ reply_text messages (Some p) = codes " reply " ++ message_name messages p
 abbrev pub message_line : List MessageInfo → List (Option ℕ) → ℕ → MessageInfo → Text
 message_line messages replies m info =
     codes "message "
-    ++ (info.name ++ (codes " " ++ (way_text info.up ++ (type_text info.carries ++ (reply_text messages (reply_at replies m) ++ codes "\n")))))
+    ++ (info.name ++ (codes " " ++ (way_text info.up ++ (type_text info.carries
+    ++ (reply_text messages (reply_at replies m) ++ codes "\n")))))
 
 -- the lines of the messages in file order
 abbrev pub message_lines : List MessageInfo → List (Option ℕ) → Text
@@ -66,8 +68,10 @@ message_lines messages replies = flat_from (message_line messages replies) 0 mes
 abbrev pub row_line : List MessageInfo → Body → Row → Text
 row_line messages body row =
     codes "  "
-    ++ (place_text body row.at ++ (codes " " ++ (trigger_text messages row.on ++ (codes ": " ++ (puts_text messages row.puts
-    ++ (codes ", " ++ (does_text body row.does ++ (codes ", " ++ (place_text body row.to ++ codes "\n")))))))))
+    ++ (place_text body row.at ++ (codes " " ++ (trigger_text messages row.on
+    ++ (codes ": " ++ (puts_text messages row.puts
+    ++ (codes ", " ++ (does_text body row.does
+    ++ (codes ", " ++ (place_text body row.to ++ codes "\n")))))))))
 
 -- the lines of a controller's rows, in order
 abbrev pub row_lines : List MessageInfo → Controller → Text
@@ -85,4 +89,5 @@ abbrev pub table_text : Tabled → Text
 table_text table =
     first_line table.name table.mode
     ++ (message_lines table.messages table.replies
-    ++ (codes "home\n" ++ (row_lines table.messages table.home ++ (codes "remote\n" ++ row_lines table.messages table.remote))))
+    ++ (codes "home\n" ++ (row_lines table.messages table.home
+    ++ (codes "remote\n" ++ row_lines table.messages table.remote))))

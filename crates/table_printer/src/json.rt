@@ -102,7 +102,9 @@ fn table_value(alloc: Global, table: &Table) -> Result<Value, AllocError>
     let mode = mode_text(table.mode());
     let name = name_text(table.name());
     let remote = rows_value(alloc, table.messages(), table.remote())?;
-    json!(in alloc; {"home": home, "messages": messages, "mode": mode, "name": name, "remote": remote})
+    json!(in alloc; {
+        "home": home, "messages": messages, "mode": mode, "name": name, "remote": remote
+    })
 }
 
 // The whole JSON, with its LF.

@@ -95,9 +95,9 @@ pub(crate) fn does_text(alloc: Global, body: &Body, does: Does) -> Result<String
     match does {
         Does::Nothing => String::from_str(alloc, "none"),
         Does::One(guard) => guard_text(alloc, body, guard),
-        Does::Two(first, second) => {
-            let first = guard_text(alloc, body, first)?;
-            let second = guard_text(alloc, body, second)?;
+        Does::Two(guard, then) => {
+            let first = guard_text(alloc, body, guard)?;
+            let second = guard_text(alloc, body, then)?;
             format!(in alloc; "{first} {second}")
         }
     }

@@ -1,12 +1,12 @@
 -- The reply that is left of one more message is the one with which it is paired.
-use Rattle.std.proofs.Common.{◌≡◌, ◌∙◌, cond, get_or, None, sym, ap}
+use Rattle.std.proofs.Common.{◌∙◌, cond, get_or, None, sym, ap}
 use Rattle.proto_model.specs.Pairs.{goes_down, paired_with}
 use Rattle.proto_model.specs.declared.numbered.Side.TheVariants as side
 use Rattle.request_reply.specs.Candidates.{candidate, agreed, only_reply}
 use Rattle.request_reply.specs.declared.look.Look.TheVariants.{HomeOutputs, RemoteInputs}
 use Rattle.request_reply.specs.declared.candidates.Candidate.TheVariants.{Unseen}
 use Rattle.request_reply.proofs.Among.{body_among}
-use Rattle.request_reply.proofs.MoreReplies.{one_more_reply}
+use Rattle.request_reply.proofs.MoreReplies.{left_at, one_more_reply}
 use Rattle.request_reply.proofs.Paired.{down_reply}
 use Rattle.request_reply.proofs.pairs.down_pairs.Goals as goal
 
@@ -23,20 +23,16 @@ candidates-requires-2 c =
 pub loop-place-preserved : goal.loop-place-preserved
 loop-place-preserved c =
     let protocol = c.args.checked.now.protocol in
-    let outputs : get_or c.as_slice.result.now c.loop-place.place Unseen ≡ candidate HomeOutputs protocol.home c.loop-place.place =
-    ap (λ kept. get_or kept c.loop-place.place Unseen) c.as_slice.ensures
-    ∙ (c.in_ok-outputs.ensures.each c.loop-place.place c.loop-place-test.true
-    ∙ ap (λ body. candidate HomeOutputs body c.loop-place.place) c.home.ensures.value) in
-    let inputs : get_or c.as_slice-in-loop-place.result.now c.loop-place.place Unseen ≡ candidate RemoteInputs protocol.remote c.loop-place.place =
-    ap (λ kept. get_or kept c.loop-place.place Unseen) c.as_slice-in-loop-place.ensures
-    ∙ (c.in_ok-inputs.ensures.each c.loop-place.place c.loop-place-test.true
-    ∙ ap (λ body. candidate RemoteInputs body c.loop-place.place) c.remote.ensures.value) in
-    let both : agreed (get_or c.as_slice.result.now c.loop-place.place Unseen) (get_or c.as_slice-in-loop-place.result.now c.loop-place.place Unseen)
-    ≡ agreed (candidate HomeOutputs protocol.home c.loop-place.place)
-    (candidate RemoteInputs protocol.remote c.loop-place.place) =
-    ap
-    (λ kept. agreed kept (get_or c.as_slice-in-loop-place.result.now c.loop-place.place Unseen)) outputs
-    ∙ ap (agreed (candidate HomeOutputs protocol.home c.loop-place.place)) inputs in
+    let place = c.loop-place.place in
+    let outputs =
+    left_at HomeOutputs _ protocol.home _ _ _ place c.as_slice.ensures c.in_ok-outputs.ensures.each
+    c.home.ensures.value c.loop-place-test.true in
+    let inputs =
+    left_at RemoteInputs _ protocol.remote _ _ _ place c.as_slice-in-loop-place.ensures c.in_ok-inputs.ensures.each
+    c.remote.ensures.value c.loop-place-test.true in
+    let both =
+    ap (λ kept. agreed kept (get_or c.as_slice-in-loop-place.result.now place Unseen)) outputs
+    ∙ ap (agreed (candidate HomeOutputs protocol.home place)) inputs in
     one_more_reply
     (λ m. cond (goes_down protocol m) (paired_with protocol m) None) c.loop-place.place c.only_reply.result
     c.loop-place.replies c.push.new.self c.in_ok-push.ensures.ok c.loop-place.invariant

@@ -2,15 +2,15 @@
 use Rattle.std.proofs.Common.{◌≡◌, Some, None, length, ap, refl, sym, subst, ◌∙◌}
 use Rattle.std.specs.List.{position}
 use Rattle.std.proofs.lemmas.Option.{slice_get_read}
-use Rattle.slot_reserve.specs.Requests.{is_from, first_of}
+use Rattle.slot_reserve.specs.Requests.{is_sent_by, first_of}
 use Rattle.slot_reserve.proofs.FirstRequest.{IsFirstAt, IsWithout, position-first, position-none, first-has_one}
 use Rattle.slot_reserve.proofs.slots.Slots.take.Goals as goal
 
 without : (c : goal.After-from_residual) → IsWithout c.args.from c.args.self.now.held
-without c = position-none c.args.from c.args.self.now.held (sym (subst (λ held. None ≡ position (is_from c.args.from) held) (c.deref.ensures.value ∙ ap (λ s. s.held) c.self.view_is) c.in_err-place.ensures))
+without c = position-none c.args.from c.args.self.now.held (sym (subst (λ held. None ≡ position (is_sent_by c.args.from) held) (c.deref.ensures.value ∙ ap (λ s. s.held) c.self.view_is) c.in_err-place.ensures))
 
 first : (c : goal.After-remove) → IsFirstAt c.args.from c.self.inside.requests.items c.in_ok-place.place
-first c = position-first c.args.from c.self.inside.requests.items c.in_ok-place.place (sym (subst (λ held. Some c.in_ok-place.place ≡ position (is_from c.args.from) held) c.deref.ensures.value c.in_ok-place.ensures))
+first c = position-first c.args.from c.self.inside.requests.items c.in_ok-place.place (sym (subst (λ held. Some c.in_ok-place.place ≡ position (is_sent_by c.args.from) held) c.deref.ensures.value c.in_ok-place.ensures))
 
 pub returns-in_err-place-clause-value : goal.returns-in_err-place-clause-value
 returns-in_err-place-clause-value c = c.from_residual.ensures ∙ sym (without c).nowhere
