@@ -7,14 +7,14 @@ use Rattle.rvc_top.specs.declared.status.Status.TheVariants.{WriteFault, NoMemor
 
 -- The number with which the program ends, by the way in which its run ended: 0 where all was done,
 -- 1 where the words have no form, 2 where the file is refused, 3 where the schedule is, 4 where a
--- source failed, 5 where the sink failed, 6 where there was no memory, 7 where a claim of the file is
--- broken.
-abbrev pub number : Status → ℕ
-number Done = 0
-number Usage = 1
-number FileRefused = 2
-number ScheduleRefused = 3
-number ReadFault = 4
-number WriteFault = 5
-number NoMemory = 6
-number ClaimBroken = 7
+-- source failed, 5 where the sink failed, 6 where there was no memory, 7 where a claim of the file
+-- is broken.
+abbrev pub status_number : Status → ℕ
+status_number Done = 0
+status_number Usage = 1
+status_number FileRefused = 2
+status_number ScheduleRefused = 3
+status_number ReadFault = 4
+status_number WriteFault = 5
+status_number NoMemory = 6
+status_number ClaimBroken = 7

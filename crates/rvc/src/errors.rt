@@ -1,8 +1,8 @@
 //! How often the system failed.
 
-ghost use Rattle.std.specs.Prelude.{◌≡◌, ◌≤◌, ◌↔◌, IsTrue, IsFalse};
+ghost use Rattle.std.specs.Prelude.{◌≡◌, ◌↔◌, IsFalse};
 ghost use Rattle.std.specs.IoError.{error_kind};
-ghost use Rattle.rv_base.specs.Outside.{Rose};
+ghost use Rattle.rv_base.specs.Outside.{RisesWhere};
 
 use std::io;
 use std::io::ErrorKind;
@@ -17,9 +17,7 @@ impl ErrorCount {
     /// Counts the error, unless it is want of memory, and answers whether it did.
     pub fn counts(&mut self, error: &io::Error) -> bool
         ensures want { IsFalse result ↔ (error_kind error.now ≡ ErrorKind.OutOfMemory) }
-        ensures counted { IsTrue result
-            → (self.old.count ≤ self.new.count) × Rose self.old.count self.new.count }
-        ensures uncounted { IsFalse result → self.new.count ≡ self.old.count }
+        ensures counted { RisesWhere result self.old.count self.new.count }
     {
         if error.kind() == ErrorKind::OutOfMemory {
             return false;

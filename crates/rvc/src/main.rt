@@ -1,10 +1,11 @@
 //! `rvc WORDS..`: makes a source of the file that the second word names, one of standard input and
-//! a sink of standard output, does what the words ask, and ends with the number of the status as its
-//! exit status.
+//! a sink of standard output, does what the words ask, and ends with the number of the status as
+//! its exit status.
 #![tactic(auto)]
 
 mod errors;
 mod exit;
+mod reading;
 mod sink;
 mod source;
 

@@ -3,7 +3,7 @@
 ghost use Rattle.std.specs.Prelude.{◌≡◌, None};
 ghost use Rattle.std.specs.Io.{ReadsAtMost};
 
-use crate::errors::ErrorCount;
+use crate::reading::Reading;
 use rv_base::{ReadAnswer, Source};
 use std::alloc::Global;
 use std::fs::File;
@@ -19,8 +19,7 @@ pub struct FileSource<'a> {
     rt: &'a HostRuntime,
     path: &'a str,
     file: Option<File>,
-    errors: ErrorCount,
-    ended: bool,
+    reading: Reading,
 }
 
 impl<'a> FileSource<'a> {
@@ -30,15 +29,14 @@ impl<'a> FileSource<'a> {
             rt,
             path,
             file: None,
-            errors: ErrorCount { count: 0 },
-            ended: false,
+            reading: Reading::new(),
         }
     }
 
     // Opens the file where that is still to do, and reads.
     fn read_some(&mut self, into: &mut [u8]) -> io::Result<usize>
         ensures bound { ReadsAtMost result into.new }
-        ensures count { self.new.errors.count ≡ self.old.errors.count }
+        ensures reading { self.new.reading ≡ self.old.reading }
     {
         let mut file = match self.file.take() {
             Some(file) => file,
@@ -60,27 +58,15 @@ fn opened(rt: &HostRuntime, path: &str) -> io::Result<File> {
 impl<'a> Source for FileSource<'a> {
     ghost left = { λ _. None };
 
-    ghost faults = { λ source. source.errors.count };
+    ghost faults = { λ source. source.reading.errors.count };
 
-    ghost ended = { λ source. source.ended };
+    ghost ended = { λ source. source.reading.ended };
+
+    ghost refused = { λ source. source.reading.refused };
 
     fn read(&mut self, into: &mut [u8]) -> ReadAnswer {
         let outcome = self.read_some(into);
-        self.ended = false;
-        match outcome {
-            Ok(0) => {
-                self.ended = true;
-                ReadAnswer::End
-            }
-            Ok(count) => ReadAnswer::Got(count),
-            Err(error) => {
-                if self.errors.counts(&error) {
-                    ReadAnswer::Failed
-                } else {
-                    ReadAnswer::NoMemory
-                }
-            }
-        }
+        self.reading.answer(outcome)
     }
 }
 
@@ -91,8 +77,7 @@ pub struct StdinSource {
     alloc: Global,
     stdin: Stdin,
     reader: Option<BufReader<Stdin>>,
-    errors: ErrorCount,
-    ended: bool,
+    reading: Reading,
 }
 
 impl StdinSource {
@@ -102,15 +87,14 @@ impl StdinSource {
             alloc: rt.alloc(),
             stdin: rt.stdin(),
             reader: None,
-            errors: ErrorCount { count: 0 },
-            ended: false,
+            reading: Reading::new(),
         }
     }
 
     // Takes memory for the piece that is kept, where that is still to do, and reads.
     fn read_some(&mut self, into: &mut [u8]) -> io::Result<usize>
         ensures bound { ReadsAtMost result into.new }
-        ensures count { self.new.errors.count ≡ self.old.errors.count }
+        ensures reading { self.new.reading ≡ self.old.reading }
     {
         let mut reader = match self.reader.take() {
             Some(reader) => reader,
@@ -125,26 +109,14 @@ impl StdinSource {
 impl Source for StdinSource {
     ghost left = { λ _. None };
 
-    ghost faults = { λ source. source.errors.count };
+    ghost faults = { λ source. source.reading.errors.count };
 
-    ghost ended = { λ source. source.ended };
+    ghost ended = { λ source. source.reading.ended };
+
+    ghost refused = { λ source. source.reading.refused };
 
     fn read(&mut self, into: &mut [u8]) -> ReadAnswer {
         let outcome = self.read_some(into);
-        self.ended = false;
-        match outcome {
-            Ok(0) => {
-                self.ended = true;
-                ReadAnswer::End
-            }
-            Ok(count) => ReadAnswer::Got(count),
-            Err(error) => {
-                if self.errors.counts(&error) {
-                    ReadAnswer::Failed
-                } else {
-                    ReadAnswer::NoMemory
-                }
-            }
-        }
+        self.reading.answer(outcome)
     }
 }

@@ -1,18 +1,18 @@
 -- How a run ends once a text is delivered, or a reply is finished.
 use Rattle.std.proofs.Common.{◌≡◌, ℕ, ◌≤◌, Bool, true, false, ◌++◌, take, Some, None, sym, ◌∙◌, ap}
-use Rattle.std.proofs.Common.{subst, refl, arith, inl, inr, IfOk, IfSome, Result, Ok, Err, ◌⊎◌}
+use Rattle.std.proofs.Common.{subst, refl, arith, inl, inr, IfOk, IfSome, Result, Ok, Err}
 use Rattle.std.proofs.lemmas.List.{append-nil}
 use Rattle.std.specs.declared.option.Option.{Option}
 use Rattle.proto_model.specs.Tokens.{Text}
-use Rattle.rv_base.specs.Outside.{Rose}
+use Rattle.rv_base.specs.Outside.{RisesWhere, Rose}
 use Rattle.rv_base.specs.Whole.{TakesPart}
-use Rattle.schedule_replay.specs.Replayed.{RisesWhere}
-use Rattle.rvc_top.specs.Commands.{Said, Task, Writes, Reads, Replays}
-use Rattle.rvc_top.specs.Endings.{Kind, Decided, ReadFailed, WriteFailed, Wanting, AtWords, AtFile}
-use Rattle.rvc_top.specs.Endings.{AtSchedule, AtEnd, kind_of, DecidedKind, IsDecided, IsOfSchedule}
-use Rattle.rvc_top.specs.Endings.{EndsBy, Whole, Partly, Ends, IsOrFails, AnswersOrFails, WhereTold}
-use Rattle.rvc_top.specs.Endings.{ReadsFile}
-use Rattle.rvc_top.specs.Reply.{ReplyKind, IsReplyEnd, reading_failed, Delivers, Finishes}
+use Rattle.rvc_top.specs.Commands.{Task, Writes, Reads, Replays}
+use Rattle.rvc_top.specs.Endings.{Kind, Decided, ReadFailed, WriteFailed, Wanting}
+use Rattle.rvc_top.specs.Endings.{kind_of, DecidedKind, IsDecided, IsOfSchedule}
+use Rattle.rvc_top.specs.Endings.{EndsBy, Written, PartWritten, Ends, IsOrFails, AnswersOrFails}
+use Rattle.rvc_top.specs.Endings.{WhereTold, ReadsFile}
+use Rattle.rvc_top.specs.FileRead.{is_read_error}
+use Rattle.rvc_top.specs.Reply.{FileDecidesKind, FileDecides, Delivers, Finishes}
 use Rattle.rvc_top.specs.declared.reply.Reply.{Reply}
 use Rattle.rvc_top.specs.declared.reply.Fault.{Fault}
 use Rattle.rvc_top.specs.declared.reply.Fault.TheVariants.{Read, NoMemory as WantsMemory}
@@ -53,14 +53,14 @@ of-file (Writes said) reads file schedule fact x = absurd reads
 of-file (Reads Value form says) reads file schedule fact x = x
 of-file (Replays Value form limits replay) reads None schedule fact x = tt
 of-file (Replays Value form limits replay) reads (Some f) schedule fact x =
-    told schedule (fact f) (λ s e. x s)
+    (λ text refuses s. x s, told schedule (fact f) (λ s e. x s))
 
 -- where both tell their bytes
 pub where-told : (task : Task) (f s : Text) (fact : Text → Text → Type 0)
     → WhereTold task (Some f) (Some s) fact → fact f s
 where-told (Writes said) f s fact x = x f s
 where-told (Reads Value form says) f s fact x = x s
-where-told (Replays Value form limits replay) f s fact x = x
+where-told (Replays Value form limits replay) f s fact x = x.1
 
 -- what follows from a fact
 pub where-then : (task : Task) (file schedule : Option Text) (fact then : Text → Text → Type 0)
@@ -70,8 +70,10 @@ where-then (Writes said) file schedule fact then g x = λ f s. g f s (x f s)
 where-then (Reads Value form says) None schedule fact then g x = tt
 where-then (Reads Value form says) (Some f) schedule fact then g x = λ s. g f s (x s)
 where-then (Replays Value form limits replay) None schedule fact then g x = tt
-where-then (Replays Value form limits replay) (Some f) None fact then g x = tt
-where-then (Replays Value form limits replay) (Some f) (Some s) fact then g x = g f s x
+where-then (Replays Value form limits replay) (Some f) None fact then g x =
+    (λ text refuses s. g f s (x.0 text refuses s), tt)
+where-then (Replays Value form limits replay) (Some f) (Some s) fact then g x =
+    (λ text refuses t. g f t (x.0 text refuses t), g f s x.1)
 
 -- ---- a text is delivered
 
@@ -79,7 +81,7 @@ where-then (Replays Value form limits replay) (Some f) (Some s) fact then g x = 
 pub ends-decided : (kind : Kind) → DecidedKind kind
     → (verdict : Status → Text → Type 0) (fault : Type 0) (before : Text) (now : Option Text)
     (status : Status)
-    → Whole verdict before now status → EndsBy kind verdict fault before now status
+    → Written verdict before now status → EndsBy kind verdict fault before now status
 ends-decided (Decided reach) is verdict fault before now status whole = whole
 ends-decided ReadFailed is verdict fault before now status whole = absurd is
 ends-decided WriteFailed is verdict fault before now status whole = absurd is
@@ -89,7 +91,7 @@ ends-decided Wanting is verdict fault before now status whole = absurd is
 pub decided-whole : (kind : Kind) → DecidedKind kind
     → (verdict : Status → Text → Type 0) (fault : Type 0) (before : Text) (now : Option Text)
     (status : Status)
-    → EndsBy kind verdict fault before now status → Whole verdict before now status
+    → EndsBy kind verdict fault before now status → Written verdict before now status
 decided-whole (Decided reach) is verdict fault before now status ends = ends
 decided-whole ReadFailed is verdict fault before now status ends = absurd is
 decided-whole WriteFailed is verdict fault before now status ends = absurd is
@@ -119,7 +121,7 @@ module _ (verdict : Status → Text → Type 0) (one : IsOne verdict) (fault : T
     (now : Option Text) where
   -- where a part of the verdict's text is written, a front of it is
   partly-part : (status : Status) (text : Text) → verdict status text
-      → TakesPart (Some before) now text → Partly verdict before now
+      → TakesPart (Some before) now text → PartWritten verdict before now
   partly-part status text said part s t other = (
     part.0,
     subst (λ (bytes : Text). now ≡ Some (before ++ take part.0 bytes))
@@ -127,7 +129,7 @@ module _ (verdict : Status → Text → Type 0) (one : IsOne verdict) (fault : T
   )
 
   -- where nothing is written, a front of the verdict's text is
-  pub partly-nothing : now ≡ Some before → Partly verdict before now
+  pub partly-nothing : now ≡ Some before → PartWritten verdict before now
   partly-nothing e status text v = (0, e ∙ ap (λ bytes. Some bytes) (sym (append-nil before)))
 
   pub ends-delivered : (status : Status) (text : Text) → verdict status text → IsDecided status
@@ -143,7 +145,7 @@ module _ (verdict : Status → Text → Type 0) (one : IsOne verdict) (fault : T
 
   pub ends-finished : (reply : Result Reply Fault) (answer : Status)
       → IfOk reply (λ r. verdict r.status r.text.items) → IfOk reply (λ r. IsDecided r.status)
-      → (reading_failed reply ≡ true → now ≡ Some before → fault)
+      → (is_read_error reply ≡ true → now ≡ Some before → fault)
       → Finishes (Some before) now reply answer → Ends verdict fault before now answer
   ends-finished (Ok r) answer said is failed w =
       ends-delivered r.status r.text.items said is answer w
@@ -171,13 +173,13 @@ exact-finished verdict one old now (Err WantsMemory) answer said w s t other = i
 
 -- ---- how a reply ends
 
-pub reply-decided : (kind : Kind) → ReplyKind kind → DecidedKind kind
+pub reply-decided : (kind : Kind) → FileDecidesKind kind → DecidedKind kind
 reply-decided (Decided reach) is = tt
 reply-decided ReadFailed is = is
 reply-decided WriteFailed is = is
 reply-decided Wanting is = is
 
-pub replies-decided : (reply : Result Reply Fault) → IfOk reply (λ r. IsReplyEnd r.status)
+pub replies-decided : (reply : Result Reply Fault) → IfOk reply (λ r. FileDecides r.status)
     → IfOk reply (λ r. IsDecided r.status)
 replies-decided (Ok r) is = reply-decided (kind_of r.status) is
 replies-decided (Err e) is = tt
@@ -186,11 +188,11 @@ replies-decided (Err e) is = tt
 abbrev NoReply : Status → Type 0
 NoReply answer = (answer ≡ Usage → ⊥) × (IsOfSchedule answer → ⊥)
 
-no-reply : (status : Status) → IsReplyEnd status → NoReply status
-no-reply status is = (λ e. subst IsReplyEnd e is, λ e. subst ReplyKind e is)
+no-reply : (status : Status) → FileDecides status → NoReply status
+no-reply status is = (λ e. subst FileDecides e is, λ e. subst FileDecidesKind e is)
 
 pub finished-no : (old now : Option Text) (reply : Result Reply Fault) (answer : Status)
-    → IfOk reply (λ r. IsReplyEnd r.status) → Finishes old now reply answer → NoReply answer
+    → IfOk reply (λ r. FileDecides r.status) → Finishes old now reply answer → NoReply answer
 finished-no old now (Ok r) answer is w =
     by-delivery NoReply old now r.text.items r.status answer w (no-reply r.status is)
     (λ e. absurd (cc), λ e. absurd (cc)) (λ e. absurd (cc), λ e. absurd (cc))
@@ -204,11 +206,11 @@ finished-no old now (Err WantsMemory) answer is w =
 
 -- a read fault is answered only where the source failed, and then nothing is written
 pub finished-read : (old now : Option Text) (reply : Result Reply Fault) (answer : Status)
-    → IfOk reply (λ r. IsReplyEnd r.status) → Finishes old now reply answer
-    → answer ≡ ReadFault → (reading_failed reply ≡ true) × (now ≡ old)
+    → IfOk reply (λ r. FileDecides r.status) → Finishes old now reply answer
+    → answer ≡ ReadFault → (is_read_error reply ≡ true) × (now ≡ old)
 finished-read old now (Ok r) answer is w e =
     absurd (by-delivery (λ s. s ≡ ReadFault → ⊥) old now r.text.items r.status answer w
-    (λ f. subst IsReplyEnd f is) (λ f. absurd (cc)) (λ f. absurd (cc)) e)
+    (λ f. subst FileDecides f is) (λ f. absurd (cc)) (λ f. absurd (cc)) e)
 finished-read old now (Err Read) answer is w e = (refl, w.1)
 finished-read old now (Err WantsMemory) answer is w e = absurd (cc w.0)
 
@@ -222,12 +224,19 @@ finished-done X old now (Ok r) answer x w e =
 finished-done X old now (Err Read) answer x w e = absurd (cc w.0)
 finished-done X old now (Err WantsMemory) answer x w e = absurd (cc w.0)
 
+-- a run that is decided has its reply
+pub finished-decided : (X : Type 0) (old now : Option Text) (reply : Result Reply Fault)
+    (answer : Status) → IfOk reply (λ r. X) → Finishes old now reply answer → IsDecided answer → X
+finished-decided X old now (Ok r) answer x w is = x
+finished-decided X old now (Err Read) answer x w is = absurd (subst IsDecided w.0 is)
+finished-decided X old now (Err WantsMemory) answer x w is = absurd (subst IsDecided w.0 is)
+
 -- ---- another verdict that says the same
 
 module _ (v w : Status → Text → Type 0) (there : (status : Status) (text : Text) → v status text
     → w status text) (back : (status : Status) (text : Text) → w status text → v status text)
     (fault more : Type 0) (fails : fault → more) (before : Text) (now : Option Text) where
-  partly-map : Partly v before now → Partly w before now
+  partly-map : PartWritten v before now → PartWritten w before now
   partly-map x status text said = x status text (back status text said)
 
   ends-by : (kind : Kind) (status : Status) → EndsBy kind v fault before now status

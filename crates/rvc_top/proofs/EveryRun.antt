@@ -1,17 +1,19 @@
 -- Each run has a verdict, and one alone.
-use Rattle.std.proofs.Common.{◌≡◌, Option, Some, None, sym, ◌∙◌, ap, subst, refl, inl, inr, ◌⊎◌}
+use Rattle.std.proofs.Common.{◌≡◌, Option, Some, None, sym, ◌∙◌, subst, refl, inl, inr}
 use Rattle.proto_model.specs.Tokens.{Text}
 use Rattle.rvc_top.specs.Words.{meaning}
-use Rattle.rvc_top.specs.Forms.{FileForm}
+use Rattle.rvc_top.specs.Forms.{FileForm, RefusesOrHolds, IsForm}
 use Rattle.rvc_top.specs.Commands.{Said, Task, Writes, Reads, Replays, describe}
-use Rattle.rvc_top.specs.Verdict.{Says, FileVerdict, TaskVerdict, EveryRunIsDecided}
+use Rattle.rvc_top.specs.Verdict.{IsSaid, FileVerdict, TaskVerdict, EveryRunIsDecided}
 use Rattle.rvc_top.specs.Verdict.{EveryVerdictIsOne}
+use Rattle.rvc_top.specs.Runs.{RefusesWords}
 use Rattle.rvc_top.specs.declared.command.Command.{Command}
 use Rattle.rvc_top.specs.declared.command.Command.TheVariants.{Print, Check, Rv, TableText}
 use Rattle.rvc_top.specs.declared.command.Command.TheVariants.{TableJson, Example as ExampleText}
+use Rattle.rvc_top.specs.declared.example.Example.{Example}
 use Rattle.rvc_top.specs.declared.status.Status.{Status}
 use Rattle.rvc_top.specs.declared.status.Status.TheVariants.{FileRefused}
-use Rattle.rvc_top.proofs.Forms.{Decides, IsForm, spelled_form-is, checked_form-is}
+use Rattle.rvc_top.proofs.Forms.{spelled_form-is, checked_form-is}
 
 -- The file that a command reads is refused with one text or holds one value.
 abbrev pub IsSound : Task → Type 0
@@ -19,14 +21,23 @@ IsSound (Writes said) = Unit {0}
 IsSound (Reads Value form says) = IsForm form
 IsSound (Replays Value form limits replay) = IsForm form
 
-pub described-sound : (command : Option Command) → IsSound (describe command).task
-described-sound None = tt
-described-sound (Some Print) = spelled_form-is
-described-sound (Some Check) = checked_form-is
-described-sound (Some (Rv n)) = checked_form-is
-described-sound (Some (TableText mode)) = checked_form-is
-described-sound (Some (TableJson mode)) = checked_form-is
-described-sound (Some (ExampleText which)) = tt
+-- What each command owes: its description is sound, and words that mean it aren't refused.
+pub record IsOwed (command : Option Command) : Type 0 where
+  pub sound : IsSound (describe command).task
+  pub meant : RefusesWords (describe command).task → command ≡ None
+
+example-meant : (which : Example) → RefusesWords (describe (Some (ExampleText which))).task
+    → Some (ExampleText which) ≡ None
+example-meant which e = absurd (cc)
+
+pub owed : (command : Option Command) → IsOwed command
+owed None = record { sound = tt; meant = λ e. refl }
+owed (Some Print) = record { sound = spelled_form-is; meant = λ e. absurd e }
+owed (Some Check) = record { sound = checked_form-is; meant = λ e. absurd e }
+owed (Some (Rv n)) = record { sound = checked_form-is; meant = λ e. absurd e }
+owed (Some (TableText mode)) = record { sound = checked_form-is; meant = λ e. absurd e }
+owed (Some (TableJson mode)) = record { sound = checked_form-is; meant = λ e. absurd e }
+owed (Some (ExampleText which)) = record { sound = tt; meant = example-meant which }
 
 -- some status and some text are a verdict
 abbrev IsThere : (Status → Text → Type 0) → Type 0
@@ -37,21 +48,21 @@ abbrev pub IsOne : (Status → Text → Type 0) → Type 0
 IsOne verdict = (s : Status) (t : Text) (r : Status) (u : Text) → verdict s t → verdict r u
     → (s ≡ r) × (t ≡ u)
 
-says-one : (said : Said) → IsOne (Says said)
+says-one : (said : Said) → IsOne (IsSaid said)
 says-one said s t r u x y = (x.0 ∙ sym y.0, x.1 ∙ sym y.1)
 
 module _ {Value : Type 0} (form : FileForm Value) (sound : IsForm form) (says : Value → Said)
     (file : Text) where
-  file-there : Decides form file → IsThere (FileVerdict form says file)
+  file-there : RefusesOrHolds form file → IsThere (FileVerdict form says file)
   file-there (inl x) = (FileRefused, x.0, inl (refl, x.1))
   file-there (inr x) = ((says x.0).status, (says x.0).text, inr (x.0, x.1, (refl, refl)))
 
   -- the verdict on a file that holds this value is what is said of the value
   pub file-says : (value : Value) → form.Holds file value → (status : Status) (text : Text)
-      → FileVerdict form says file status text → Says (says value) status text
+      → FileVerdict form says file status text → IsSaid (says value) status text
   file-says value holds status text (inl x) = absurd (sound.not_both file text value holds x.1)
   file-says value holds status text (inr x) =
-      subst (λ (v : Value). Says (says v) status text) (sound.held_once file x.0 value x.1 holds)
+      subst (λ (v : Value). IsSaid (says v) status text) (sound.held_once file x.0 value x.1 holds)
       x.2
 
   file-one : IsOne (FileVerdict form says file)
@@ -76,9 +87,9 @@ task-one (Replays Value form limits replay) sound file schedule =
 
 pub every-run-decided : EveryRunIsDecided
 every-run-decided words file schedule = task-there (describe (meaning words)).task
-    (described-sound (meaning words)) file schedule
+    (owed (meaning words)).sound file schedule
 
 pub every-verdict-one : EveryVerdictIsOne
 every-verdict-one words file schedule s t r u x y =
-    task-one (describe (meaning words)).task (described-sound (meaning words)) file schedule s t r u
+    task-one (describe (meaning words)).task (owed (meaning words)).sound file schedule s t r u
     x y

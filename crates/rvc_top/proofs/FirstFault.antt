@@ -1,5 +1,5 @@
 -- The first fault of a protocol is at one of its items.
-use Rattle.std.proofs.Common.{◌≡◌, ℕ, ◌+◌, ◌<◌, ◌≤◌, List, [], ◌∷◌, length, Some, None, ap, arith}
+use Rattle.std.proofs.Common.{◌≡◌, ℕ, ◌+◌, ◌<◌, ◌≤◌, List, [], ◌∷◌, length, Some, ap, arith}
 use Rattle.proto_model.specs.Faults.{faults_from, faults, first, first_fault, item_codes}
 use Rattle.proto_model.specs.declared.protocol.Protocol.{Protocol}
 

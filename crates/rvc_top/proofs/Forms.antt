@@ -1,6 +1,6 @@
 -- Each file is refused with one text or holds one value, by each form in which commands take a
 -- file.
-use Rattle.std.proofs.Common.{◌≡◌, ℕ, ◌+◌, ◌<◌, ◌≤◌, List, [], ◌∷◌, length, get_or, Some, None, sym}
+use Rattle.std.proofs.Common.{◌≡◌, ℕ, ◌<◌, ◌≤◌, List, [], ◌∷◌, length, get_or, Some, None, sym}
 use Rattle.std.proofs.Common.{◌∙◌, ap, subst, refl, arith, inl, inr, ◌⊎◌}
 use Rattle.std.specs.Prelude.{slice_get}
 use Rattle.std.proofs.lemmas.Option.{slice_get-get_or}
@@ -15,22 +15,9 @@ use Rattle.protocol_reader.proofs.OneFaultLine.{one-fault-line}
 use Rattle.protocol_reader.proofs.ItemLines.{item_lines-length}
 use Rattle.rv_base.specs.Whole.{file_limit}
 use Rattle.rvc_top.specs.Texts.{too_long_text, fault_text}
-use Rattle.rvc_top.specs.Forms.{FileForm, RefusesUnspelled, HoldsSpelled, spelled_form, Faulty}
-use Rattle.rvc_top.specs.Forms.{RefusesUnchecked, HoldsProtocol, checked_form}
+use Rattle.rvc_top.specs.Forms.{RefusesOrHolds, IsForm, RefusesUnspelled, HoldsSpelled}
+use Rattle.rvc_top.specs.Forms.{spelled_form, Faulty, RefusesUnchecked, HoldsProtocol, checked_form}
 use Rattle.rvc_top.proofs.FirstFault.{first-within}
-
--- A file is refused with a text or holds a value.
-abbrev pub Decides : {Value : Type 0} → FileForm Value → Text → Type 0
-Decides {Value} form file =
-    ((text : Text) × form.Refuses file text) ⊎ ((value : Value) × form.Holds file value)
-
--- Each file is refused or holds a value, and not both, and there is one text and one value.
-pub record IsForm {Value : Type 0} (form : FileForm Value) : Type 0 where
-  pub decides : (file : Text) → Decides form file
-  pub not_both : (file text : Text) (value : Value) → form.Holds file value → form.Refuses file text
-      → ⊥
-  pub refused_once : (file t u : Text) → form.Refuses file t → form.Refuses file u → t ≡ u
-  pub held_once : (file : Text) (a b : Value) → form.Holds file a → form.Holds file b → a ≡ b
 
 -- ---- files that spell a protocol
 
@@ -50,11 +37,11 @@ spelled-same file a b x y = spelled_once file a b x.1 y.1
 
 spelled-short : (file : Text) → length file ≤ file_limit
     → ((p : Protocol) × Spells file p) ⊎ ((line : ℕ) × IsFaultLine file line)
-    → Decides spelled_form file
+    → RefusesOrHolds spelled_form file
 spelled-short file short (inl x) = inr (x.0, (short, x.1))
 spelled-short file short (inr x) = inl (fault_text x.0 1, inr (x.0, short, x.1, refl))
 
-spelled-decides : (file : Text) → Decides spelled_form file
+spelled-decides : (file : Text) → RefusesOrHolds spelled_form file
 spelled-decides file =
     elim (leb_tells (length file) file_limit) [
       | inl short ↦ spelled-short file short.1 (every_file file)
@@ -112,7 +99,7 @@ checked-same file a b x y = x.4 ∙ (ap numbered (spelled_once file x.0 y.0 x.2 
 
 checked-spelled : (file : Text) (p : Protocol) → HoldsSpelled file p → (fs : List (ℕ × ℕ))
     → faults p ≡ fs
-    → Decides checked_form file
+    → RefusesOrHolds checked_form file
 checked-spelled file p holds [] e = inr (numbered p, (p, holds.0, holds.1, e, refl))
 checked-spelled file p holds ((i, code) ∷ more) e =
     let lines = item_lines file p in
@@ -122,7 +109,7 @@ checked-spelled file p holds ((i, code) ∷ more) e =
     let told = slice_get-get_or lines i 0 here in
     inl (fault_text line code, inr (p, holds.0, holds.1, (i, code, line, ap first e, told, refl)))
 
-checked-by : (file : Text) → Decides spelled_form file → Decides checked_form file
+checked-by : (file : Text) → RefusesOrHolds spelled_form file → RefusesOrHolds checked_form file
 checked-by file (inl x) = inl (x.0, inl x.1)
 checked-by file (inr x) = checked-spelled file x.0 x.1 (faults x.0) refl
 

@@ -3,6 +3,5 @@ pub mod Forms
 pub mod EveryRun
 pub mod Endings
 pub mod Checked
-pub mod Replies
 pub mod Runs
 pub mod Replays

@@ -1,5 +1,5 @@
 -- How a run ends with its replay.
-use Rattle.std.proofs.Common.{◌≡◌, ℕ, ◌+◌, ◌≤◌, min, Bool, true, false, not, ◌&&◌, IfSome, [], ◌++◌}
+use Rattle.std.proofs.Common.{◌≡◌, ℕ, ◌+◌, min, Bool, true, false, not, ◌&&◌, IfSome, [], ◌++◌}
 use Rattle.std.proofs.Common.{take, length, Some, None, sym, ◌∙◌, ap, subst, refl, arith, inl, inr}
 use Rattle.std.proofs.Common.{◌⊎◌, append_assoc}
 use Rattle.std.proofs.lemmas.List.{append-nil, take_min, take-append-le}
@@ -7,22 +7,23 @@ use Rattle.std.proofs.Math.Seq.{take-append-add}
 use Rattle.std.specs.declared.option.Option.{Option}
 use Rattle.std.specs.Io.KnownBytes.{append_known, IsAtEnd}
 use Rattle.proto_model.specs.Tokens.{Text}
+use Rattle.rv_base.specs.Outside.{RisesWhere}
 use Rattle.rv_base.specs.Whole.{TakesPart, TakesAtMost}
 use Rattle.schedule_replay.specs.Play.{Play}
-use Rattle.schedule_replay.specs.Played.{Stop, Whole as WholeSchedule, AtLine, TooMany, Halted}
+use Rattle.schedule_replay.specs.Played.{Stop, AtEnd, AtLine, TooMany, Halted}
 use Rattle.schedule_replay.specs.Played.{played, trace}
 use Rattle.schedule_replay.specs.Replayed.{answer_of, LeavesAt, Decides, StopsSo, WritesSo}
-use Rattle.schedule_replay.specs.Replayed.{RisesWhere, is_read_fault, is_write_fault, is_decided}
+use Rattle.schedule_replay.specs.Replayed.{is_read_fault, is_write_fault, is_decided}
 use Rattle.schedule_replay.specs.declared.limits.Limits.{Limits}
 use Rattle.schedule_replay.specs.declared.replaying.Replayed.{Replayed}
 use Rattle.schedule_replay.specs.declared.replaying.Replayed.TheVariants as replay
 use Rattle.rvc_top.specs.Texts.{bad_line_text, too_many_text}
-use Rattle.rvc_top.specs.Commands.{Said, done, said_at}
-use Rattle.rvc_top.specs.Verdict.{Says}
+use Rattle.rvc_top.specs.Commands.{said_at}
+use Rattle.rvc_top.specs.Verdict.{IsSaid}
 use Rattle.rvc_top.specs.Endings.{kind_of, DecidedKind, IsDecided, IsOfSchedule, read_failed}
-use Rattle.rvc_top.specs.Endings.{write_failed, Whole, Partly, Ends, IsOrFails}
+use Rattle.rvc_top.specs.Endings.{write_failed, PartWritten, Ends, IsOrFails}
 use Rattle.rvc_top.specs.Reply.{Delivers, Concludes}
-use Rattle.rvc_top.specs.Runs.{IsReplayEnd}
+use Rattle.rvc_top.specs.Runs.{ReachesSchedule}
 use Rattle.rvc_top.specs.declared.status.Status.{Status}
 use Rattle.rvc_top.specs.declared.status.Status.TheVariants.{Done, ScheduleRefused, ReadFault}
 use Rattle.rvc_top.specs.declared.status.Status.TheVariants.{WriteFault, NoMemory, ClaimBroken}
@@ -51,14 +52,14 @@ error_by replay.WriteFault = []
 error_by replay.NoMemory = []
 
 said-status : (stop : Stop) (text : Text) → (said_at stop text).status ≡ status_by (answer_of stop)
-said-status WholeSchedule text = refl
+said-status AtEnd text = refl
 said-status (AtLine line) text = refl
 said-status TooMany text = refl
 said-status (Halted lines claim) text = refl
 
 said-text : (stop : Stop) (text : Text) → (said_at stop text).text ≡ text
     ++ error_by (answer_of stop)
-said-text WholeSchedule text = sym (append-nil text)
+said-text AtEnd text = sym (append-nil text)
 said-text (AtLine line) text = refl
 said-text TooMany text = refl
 said-text (Halted lines claim) text = sym (append-nil text)
@@ -88,7 +89,7 @@ by-conclusion P same cut old new replay.WriteFault answer w =
 by-conclusion P same cut old new replay.NoMemory answer w =
     subst (P replay.NoMemory) (sym w.0) (same replay.NoMemory)
 
-status-end : (r : Replayed) → IsReplayEnd (status_by r)
+status-end : (r : Replayed) → ReachesSchedule (status_by r)
 status-end replay.Done = tt
 status-end (replay.BadLine line) = tt
 status-end replay.TooManyLines = tt
@@ -137,8 +138,8 @@ decided-same replay.NoMemory is = absurd is
 
 module _ (old new : Option Text) (replayed : Replayed) (answer : Status)
     (w : Concludes old new replayed answer) where
-  pub concluded-ends : IsReplayEnd answer
-  concluded-ends = by-conclusion (λ r s. IsReplayEnd s) status-end (λ r e. (tt, tt)) old new
+  pub concluded-ends : ReachesSchedule answer
+  concluded-ends = by-conclusion (λ r s. ReachesSchedule s) status-end (λ r e. (tt, tt)) old new
       replayed answer w
 
   concluded-read : read_failed (kind_of answer) ≡ is_read_fault replayed
@@ -219,7 +220,7 @@ module _ (stop : Stop) (trace before : Text) (fault : Type 0) (mid now : Option 
     (answer : Status) where
   -- a front of the trace is one of what is said
   partly-trace : (count : ℕ) → now ≡ Some (before ++ take count trace)
-      → Partly (Says (said_at stop trace)) before now
+      → PartWritten (IsSaid (said_at stop trace)) before now
   partly-trace count e status text said =
       let front = front-longer before trace (error_by (answer_of stop)) now count e in (
         front.0,
@@ -231,10 +232,10 @@ module _ (stop : Stop) (trace before : Text) (fault : Type 0) (mid now : Option 
   ends-behind : (error : Text) (status : Status) → status ≡ (said_at stop trace).status → trace
       ++ error ≡ (said_at stop trace).text → IsDecided status
       → mid ≡ Some (before ++ trace) → Delivers mid now error status answer
-      → Ends (Says (said_at stop trace)) fault before now answer
+      → Ends (IsSaid (said_at stop trace)) fault before now answer
   ends-behind error status same text is wrote (inl w) =
-      subst (Ends (Says (said_at stop trace)) fault before now) (sym w.0)
-      (ends-decided (kind_of status) is (Says (said_at stop trace)) fault before now status (
+      subst (Ends (IsSaid (said_at stop trace)) fault before now) (sym w.0)
+      (ends-decided (kind_of status) is (IsSaid (said_at stop trace)) fault before now status (
         trace ++ error,
         (same, text),
         w.1 ∙ (ap (λ old. append_known old error) wrote
@@ -243,7 +244,7 @@ module _ (stop : Stop) (trace before : Text) (fault : Type 0) (mid now : Option 
   ends-behind error status same text is wrote (inr w) =
       let part : TakesPart mid now error = part-of w in
       let front = front-behind before trace error mid now wrote part in
-      let partly : Partly (Says (said_at stop trace)) before now =
+      let partly : PartWritten (IsSaid (said_at stop trace)) before now =
       λ s t said. (
         front.0,
         front.1 ∙ ap (λ bytes. Some (before ++ take front.0 bytes))
@@ -258,28 +259,29 @@ module _ (stop : Stop) (trace before : Text) (fault : Type 0) (mid now : Option 
 
       cut : ((answer ≡ WriteFault) × TakesPart mid now error)
           ⊎ ((answer ≡ NoMemory) × TakesPart mid now error)
-          → Partly (Says (said_at stop trace)) before now
-          → Ends (Says (said_at stop trace)) fault before now answer
-      cut (inl w) partly = subst (Ends (Says (said_at stop trace)) fault before now) (sym w.0)
+          → PartWritten (IsSaid (said_at stop trace)) before now
+          → Ends (IsSaid (said_at stop trace)) fault before now answer
+      cut (inl w) partly = subst (Ends (IsSaid (said_at stop trace)) fault before now) (sym w.0)
           partly
-      cut (inr w) partly = subst (Ends (Says (said_at stop trace)) fault before now) (sym w.0)
+      cut (inr w) partly = subst (Ends (IsSaid (said_at stop trace)) fault before now) (sym w.0)
           partly
 
   -- the trace was written, and nothing follows
   ends-there : (status : Status) → status ≡ (said_at stop trace).status → trace
       ++ [] ≡ (said_at stop trace).text → IsDecided status
       → mid ≡ Some (before ++ trace) → (answer ≡ status) × (now ≡ mid)
-      → Ends (Says (said_at stop trace)) fault before now answer
+      → Ends (IsSaid (said_at stop trace)) fault before now answer
   ends-there status same text is wrote w =
-      subst (Ends (Says (said_at stop trace)) fault before now) (sym w.0)
-      (ends-decided (kind_of status) is (Says (said_at stop trace)) fault before now status
+      subst (Ends (IsSaid (said_at stop trace)) fault before now) (sym w.0)
+      (ends-decided (kind_of status) is (IsSaid (said_at stop trace)) fault before now status
       (trace, (same, sym (append-nil trace) ∙ text), w.1 ∙ wrote))
 
-  ends-cut : (status : Status) → (Partly (Says (said_at stop trace)) before now
-      → Ends (Says (said_at stop trace)) fault before now status)
+  ends-cut : (status : Status) → (PartWritten (IsSaid (said_at stop trace)) before now
+      → Ends (IsSaid (said_at stop trace)) fault before now status)
       → (count : ℕ) × (mid ≡ Some (before ++ take count trace)) → (answer ≡ status) × (now ≡ mid)
-      → Ends (Says (said_at stop trace)) fault before now answer
-  ends-cut status lift front w = subst (Ends (Says (said_at stop trace)) fault before now) (sym w.0)
+      → Ends (IsSaid (said_at stop trace)) fault before now answer
+  ends-cut status lift front w =
+      subst (Ends (IsSaid (said_at stop trace)) fault before now) (sym w.0)
       (lift (partly-trace front.0 (w.1 ∙ front.1)))
 
 module _ {State Item : Type 0} (play : Play State Item) (limits : Limits) (start : State)
@@ -301,7 +303,7 @@ module _ {State Item : Type 0} (play : Play State Item) (limits : Limits) (start
       → StopsSo play limits start schedule left replayed
       → WritesSo play limits start schedule left before mid replayed
       → Concludes mid now replayed answer
-      → Ends (Says (said_at (played play limits start schedule).stop
+      → Ends (IsSaid (said_at (played play limits start schedule).stop
       (trace play limits start schedule)))
       (WritesSo play limits start schedule left before now replay.ReadFault) before now answer
   ends-replay before mid now replay.Done answer stops writes w =
@@ -323,7 +325,7 @@ module _ {State Item : Type 0} (play : Play State Item) (limits : Limits) (start
       (same-text (replay.ClaimBroken claim) stops) tt writes w
   ends-replay before mid now replay.ReadFault answer stops writes w =
       subst (Ends
-      (Says (said_at (played play limits start schedule).stop
+      (IsSaid (said_at (played play limits start schedule).stop
       (trace play limits start schedule)))
       (WritesSo play limits start schedule left before now replay.ReadFault) before now)
       (sym w.0)
@@ -383,7 +385,7 @@ module _ {State Item : Type 0} (play : Play State Item) (limits : Limits) (start
 
   whole-left : (stop : Stop) → Done ≡ (said_at stop (trace play limits start schedule)).status
       → LeavesAt limits stop schedule left → left ≡ Some []
-  whole-left WholeSchedule e leaves = leaves
+  whole-left AtEnd e leaves = leaves
   whole-left (AtLine line) e leaves = absurd (cc)
   whole-left TooMany e leaves = absurd (cc)
   whole-left (Halted lines claim) e leaves = absurd (cc)

@@ -1,31 +1,26 @@
 -- A run is one as its command is described: where it writes one text, where it replies to its file,
 -- and where it replays its schedule.
-use Rattle.std.proofs.Common.{◌≡◌, ℕ, ◌+◌, ◌≤◌, Bool, true, false, [], ◌++◌, Some, None, sym, ◌∙◌}
+use Rattle.std.proofs.Common.{◌≡◌, ℕ, ◌+◌, false, [], Some, None, sym, ◌∙◌}
 use Rattle.std.proofs.Common.{ap, subst, refl, arith, inl, inr, IfOk, IfSome, Result, Ok, Err, ◌⊎◌}
 use Rattle.std.proofs.lemmas.Option.{IfSome_then}
 use Rattle.std.specs.declared.option.Option.{Option}
 use Rattle.proto_model.specs.Tokens.{Text}
-use Rattle.rv_base.specs.Outside.{Rose}
-use Rattle.rv_base.specs.Whole.{TakesAtMost, file_limit}
-use Rattle.schedule_replay.specs.Replayed.{RisesWhere}
+use Rattle.rv_base.specs.Outside.{RisesWhere, Rose}
+use Rattle.rv_base.specs.Whole.{TakesAtMost}
 use Rattle.schedule_replay.specs.declared.limits.Limits.{Limits}
-use Rattle.rvc_top.specs.Forms.{FileForm}
+use Rattle.rvc_top.specs.Forms.{FileForm, IsForm}
 use Rattle.rvc_top.specs.Texts.{usage_text}
 use Rattle.rvc_top.specs.Commands.{Said, Replay, Task, Writes, Reads, Replays, describe}
-use Rattle.rvc_top.specs.Verdict.{Says, FileVerdict, TaskVerdict}
-use Rattle.rvc_top.specs.Endings.{Kind, kind_of, IsDecided, IsOfSchedule, read_failed, write_failed}
+use Rattle.rvc_top.specs.Verdict.{IsSaid, FileVerdict, TaskVerdict}
+use Rattle.rvc_top.specs.Endings.{kind_of, IsDecided, IsOfSchedule, read_failed, write_failed}
 use Rattle.rvc_top.specs.Endings.{Ends, AnswersOrFails, Answers, IsOrFails, WhereTold, ReadsFile}
-use Rattle.rvc_top.specs.Endings.{ReadsSchedule, most_of_file, most_of_schedule, RefusesFile}
+use Rattle.rvc_top.specs.Endings.{ReadsSchedule, most_of_file, most_of_schedule}
 use Rattle.rvc_top.specs.Endings.{FaultLeaves, FaultIsOf}
-use Rattle.rvc_top.specs.Reply.{IsReplyEnd, IsReplyTo, reading_failed, Delivers, Finishes, task_of}
-use Rattle.rvc_top.specs.Runs.{Seen, WasEnded, WasTaken, RefusesWords, IsRun, ReplayKind, IsReplay}
-use Rattle.rvc_top.specs.Runs.{IsReplayEnd as IsEndOfReplay}
+use Rattle.rvc_top.specs.FileRead.{is_read_error}
+use Rattle.rvc_top.specs.Reply.{FileDecides, IsReplyTo, Delivers, Finishes}
+use Rattle.rvc_top.specs.Runs.{Seen, unseen, WasEnded, WentWell, IsRun}
+use Rattle.rvc_top.specs.Runs.{ReachesSchedule, IsReplay}
 use Rattle.rvc_top.specs.declared.command.Command.{Command}
-use Rattle.rvc_top.specs.declared.command.Command.TheVariants.{Print, Check, Rv, TableText}
-use Rattle.rvc_top.specs.declared.command.Command.TheVariants.{TableJson, Example as ExampleText}
-use Rattle.rvc_top.specs.declared.file_command.FileCommand.{FileCommand}
-use Rattle.rvc_top.specs.declared.file_command.FileCommand.TheVariants as asks
-use Rattle.rvc_top.specs.declared.file_command.CheckedCommand.TheVariants as checked
 use Rattle.rvc_top.specs.declared.reply.Reply.{Reply}
 use Rattle.rvc_top.specs.declared.reply.Fault.{Fault}
 use Rattle.rvc_top.specs.declared.status.Status.{Status}
@@ -33,19 +28,19 @@ use Rattle.rvc_top.specs.declared.status.Status.TheVariants.{Done, Usage, FileRe
 use Rattle.rvc_top.specs.declared.status.Status.TheVariants.{WriteFault, NoMemory}
 use Rattle.rvc_top.specs.declared.status.Status.TheVariants.{ScheduleRefused, ClaimBroken}
 use Rattle.rvc_top.specs.declared.reply.Fault.TheVariants.{Read, NoMemory as WantsMemory}
-use Rattle.rvc_top.proofs.Forms.{IsForm}
-use Rattle.rvc_top.proofs.EveryRun.{IsSound, described-sound, task-one, file-says}
+use Rattle.rvc_top.proofs.EveryRun.{IsSound, task-one, file-says}
 use Rattle.schedule_replay.specs.Limits.{most_taken}
 use Rattle.rvc_top.proofs.Endings.{partly-nothing, rises-le, rose-where, told, of-file, where-then}
 use Rattle.rvc_top.proofs.Endings.{by-delivery}
 use Rattle.rvc_top.proofs.Endings.{ends-delivered, ends-finished, exact-delivered, exact-finished}
 use Rattle.rvc_top.proofs.Endings.{replies-decided, finished-no, finished-read, finished-done}
+use Rattle.rvc_top.proofs.Endings.{finished-decided}
 use Rattle.rvc_top.proofs.Endings.{ends-map}
 
 -- Where no read fault is answered, no read failed.
 
 replied-stays : (before now : ℕ) (old new : Option Text) (reply : Result Reply Fault)
-    (answer : Status) → RisesWhere (reading_failed reply) before now → Finishes old new reply answer
+    (answer : Status) → RisesWhere (is_read_error reply) before now → Finishes old new reply answer
     → (answer ≡ ReadFault → ⊥) → now ≡ before
 replied-stays before now old new (Ok r) answer count finishes fine = count
 replied-stays before now old new (Err Read) answer count finishes fine = absurd (fine finishes.0)
@@ -83,20 +78,20 @@ module _ (said : Said) (file schedule out : Seen) (answer : Status) (still_file 
     (is : IsDecided said.status) (own : IsOfSchedule said.status → ⊥)
     (delivers : Delivers out.old out.new said.text said.status answer) where
   written-bytes : (f s : Text) → IfSome out.old
-      (λ before. Ends (Says said) (FaultLeaves (Writes said) file.before file.now f s schedule.new
+      (λ before. Ends (IsSaid said) (FaultLeaves (Writes said) file.before file.now f s schedule.new
       before out.new) before out.new answer)
   written-bytes f s =
       told out.old _ (λ before e.
-      ends-delivered (Says said) (task-one (Writes said) tt f s) _ before out.new said.status
+      ends-delivered (IsSaid said) (task-one (Writes said) tt f s) _ before out.new said.status
       said.text (refl, refl) is answer
       (subst (λ (old : Option Text). Delivers old out.new said.text said.status answer) e delivers))
 
   pub run-written : RisesWhere (write_failed (kind_of answer)) out.before out.now
-      → (IsDecided answer → WasTaken out)
+      → (IsDecided answer → WentWell out)
       → IsRun (Writes said) file schedule out answer
   run-written writes written = record {
     bytes = written-bytes;
-    exact = λ f s. exact-delivered (Says said) (task-one (Writes said) tt f s) out.old out.new
+    exact = λ f s. exact-delivered (IsSaid said) (task-one (Writes said) tt f s) out.old out.new
         said.status said.text (refl, refl) answer delivers;
     usage = by-delivery (λ s. s ≡ Usage → said.status ≡ Usage) out.old out.new said.text said.status
         answer delivers (λ e. e) (λ e. absurd (cc)) (λ e. absurd (cc));
@@ -117,6 +112,7 @@ module _ (said : Said) (file schedule out : Seen) (answer : Status) (still_file 
         delivers own (λ f. absurd (cc)) (λ f. absurd (cc));
     file_first = λ e. still.same;
     refused = told file.old _ (λ f e refuses. still.same);
+    gave = λ is. (inl still_file.same, inl still.same);
     written = written;
   }
 
@@ -125,8 +121,8 @@ module _ (said : Said) (file schedule out : Seen) (answer : Status) (still_file 
 module _ (task : Task) (sound : IsSound task) (reads : ReadsFile task) (file schedule out : Seen)
     (answer : Status) (still : IsStill schedule)
     (reply : Result Reply Fault) (replies : IfSome file.old (λ f. IfOk reply (IsReplyTo task f)))
-    (is : IfOk reply (λ r. IsReplyEnd r.status))
-    (count : RisesWhere (reading_failed reply) file.before file.now)
+    (is : IfOk reply (λ r. FileDecides r.status))
+    (count : RisesWhere (is_read_error reply) file.before file.now)
     (finishes : Finishes out.old out.new reply answer) where
   said-of : (f s : Text) (r : Result Reply Fault) → IfOk r (IsReplyTo task f)
       → IfOk r (λ x. TaskVerdict task f s x.status x.text.items)
@@ -142,7 +138,7 @@ module _ (task : Task) (sound : IsSound task) (reads : ReadsFile task) (file sch
       ends-finished (TaskVerdict task f s) (task-one task sound f s) _ before out.new reply answer
       (said-of f s reply says) (replies-decided reply is)
       (λ failed nothing. inl (
-        rose-where (reading_failed reply) file.before file.now failed count,
+        rose-where (is_read_error reply) file.before file.now failed count,
         nothing,
       ))
       (subst (λ (old : Option Text). Finishes old out.new reply answer) e finishes))
@@ -153,24 +149,25 @@ module _ (task : Task) (sound : IsSound task) (reads : ReadsFile task) (file sch
       let read = finished-read out.old out.new reply answer is finishes e in
       inl (
         reads,
-        rose-where (reading_failed reply) file.before file.now read.0 count,
+        rose-where (is_read_error reply) file.before file.now read.0 count,
         (still.same, read.1),
       )
 
   pub run-replied : IfOk reply (λ r. r.status ≡ Done → WasEnded file)
       → IfOk reply (λ r. r.status ≡ Done → ReadsSchedule task → ⊥)
       → TakesAtMost (most_of_file task) file.old file.new
+      → IfOk reply (λ r. file.refused ≡ false)
       → RisesWhere (write_failed (kind_of answer)) out.before out.now
-      → (IsDecided answer → WasTaken out)
+      → (IsDecided answer → WentWell out)
       → IsRun task file schedule out answer
-  run-replied ended alone taken writes written = record {
+  run-replied ended alone taken gave writes written = record {
     bytes = of-file task reads file.old schedule.old _ (IfSome_then file.old replies replied-bytes);
     exact = of-file task reads file.old schedule.old _ (IfSome_then file.old replies (λ f says s.
         exact-finished (TaskVerdict task f s) (task-one task sound f s) out.old out.new reply answer
         (said-of f s reply says) finishes));
     usage = λ e. absurd ((finished-no out.old out.new reply answer is finishes).0 e);
     read_fault = replied-fault;
-    read_count = rises-le (reading_failed reply) file.before file.now count;
+    read_count = rises-le (is_read_error reply) file.before file.now count;
     schedule_count = omega (arith, still.count);
     reads_stay = λ fine. (
       replied-stays file.before file.now out.old out.new reply answer count finishes
@@ -188,57 +185,71 @@ module _ (task : Task) (sound : IsSound task) (reads : ReadsFile task) (file sch
     decided = λ e. absurd ((finished-no out.old out.new reply answer is finishes).1 e);
     file_first = λ e. still.same;
     refused = told file.old _ (λ f e refuses. still.same);
+    gave = λ decided. (
+      inr (finished-decided (file.refused ≡ false) out.old out.new reply answer gave finishes
+          decided),
+      inl still.same,
+    );
     written = written;
   }
 
 -- ---- a command that reads the file alone
 
-asked-sound : (command : FileCommand) → IsSound (task_of command)
-asked-sound asks.Print = described-sound (Some Print)
-asked-sound (asks.OnChecked checked.Check) = described-sound (Some Check)
-asked-sound (asks.OnChecked (checked.TableText mode)) = described-sound (Some (TableText mode))
-asked-sound (asks.OnChecked (checked.TableJson mode)) = described-sound (Some (TableJson mode))
-
-asked-reads : (command : FileCommand) → ReadsFile (task_of command)
-asked-reads asks.Print = tt
-asked-reads (asks.OnChecked checked.Check) = tt
-asked-reads (asks.OnChecked (checked.TableText mode)) = tt
-asked-reads (asks.OnChecked (checked.TableJson mode)) = tt
-
-asked-alone : (command : FileCommand) → ReadsSchedule (task_of command) → ⊥
-asked-alone asks.Print reads = reads
-asked-alone (asks.OnChecked checked.Check) reads = reads
-asked-alone (asks.OnChecked (checked.TableText mode)) reads = reads
-asked-alone (asks.OnChecked (checked.TableJson mode)) reads = reads
-
-asked-most : (command : FileCommand) → file_limit + 1 ≡ most_of_file (task_of command)
-asked-most asks.Print = refl
-asked-most (asks.OnChecked checked.Check) = refl
-asked-most (asks.OnChecked (checked.TableText mode)) = refl
-asked-most (asks.OnChecked (checked.TableJson mode)) = refl
-
 ok-any : {P : Reply → Type 0} (reply : Result Reply Fault) → ((r : Reply) → P r) → IfOk reply P
 ok-any (Ok r) p = p r
 ok-any (Err e) p = tt
 
--- a run that writes the command's reply
-pub run-asked : (command : FileCommand) (file schedule out : Seen) (answer : Status)
-    → IsStill schedule
-    → (reply : Result Reply Fault) → IfSome file.old
-    (λ f. IfOk reply (IsReplyTo (task_of command) f)) → IfOk reply (λ r. IsReplyEnd r.status)
-    → IfOk reply (λ r. r.status ≡ Done → WasEnded file)
-    → TakesAtMost (file_limit + 1) file.old file.new
-    → RisesWhere (reading_failed reply) file.before file.now
-    → Finishes out.old out.new reply answer → RisesWhere (write_failed (kind_of answer)) out.before
-    out.now → (IsDecided answer → WasTaken out)
-    → IsRun (task_of command) file schedule out answer
-run-asked command file schedule out answer still reply says is ended taken count finishes writes
-    written =
-    run-replied (task_of command) (asked-sound command) (asked-reads command) file schedule out
-    answer still reply says is count finishes
-    ended (ok-any reply (λ r e reads. asked-alone command reads))
-    (subst (λ (most : ℕ). TakesAtMost most file.old file.new) (asked-most command) taken) writes
-    written
+module _ (Value : Type 0) (form : FileForm Value) (says : Value → Said) (file out : Seen)
+    (answer : Status) where
+  -- a run that writes what is replied to the file
+  pub run-told : IsForm form
+      → (reply : Result Reply Fault)
+      → IfSome file.old (λ f. IfOk reply (IsReplyTo (Reads Value form says) f))
+      → IfOk reply (λ r. FileDecides r.status)
+      → IfOk reply (λ r. r.status ≡ Done → WasEnded file)
+      → TakesAtMost (form.limit + 1) file.old file.new
+      → IfOk reply (λ r. file.refused ≡ false)
+      → RisesWhere (is_read_error reply) file.before file.now
+      → Finishes out.old out.new reply answer
+      → RisesWhere (write_failed (kind_of answer)) out.before out.now
+      → (IsDecided answer → WentWell out) → IsRun (Reads Value form says) file unseen out answer
+  run-told sound reply replies is ended taken gave count finishes writes written =
+      run-replied (Reads Value form says) sound tt file unseen out answer
+      record { left = refl; count = refl; same = tt } reply replies is count finishes ended
+      (ok-any reply (λ r e reads. reads)) taken gave writes written
+
+  -- where it stands beside a schedule that is as it was
+  pub run-beside : (schedule : Seen) → IsStill schedule
+      → IsRun (Reads Value form says) file unseen out answer
+      → IsRun (Reads Value form says) file schedule out answer
+  run-beside schedule still run = record {
+    bytes = run.bytes;
+    exact = run.exact;
+    usage = run.usage;
+    read_fault = λ e. fault-beside (run.read_fault e);
+    read_count = run.read_count;
+    schedule_count = omega (arith, still.count);
+    reads_stay = λ fine. ((run.reads_stay fine).0, still.count);
+    write_count = run.write_count;
+    unread = run.unread;
+    end = run.end;
+    taken = run.taken;
+    unused = λ e. still.same;
+    schedule_end = λ e reads. absurd reads;
+    schedule_taken = still-taken schedule still 0;
+    decided = run.decided;
+    file_first = λ e. still.same;
+    refused = told file.old _ (λ f e refuses. still.same);
+    gave = λ is. ((run.gave is).0, inl still.same);
+    written = run.written;
+  }
+    where
+      fault-beside : FaultIsOf (Reads Value form says) file.before file.now 0 0
+          (Unit {0} × (out.new ≡ out.old))
+          → FaultIsOf (Reads Value form says) file.before file.now schedule.before schedule.now
+          (schedule.Same × (out.new ≡ out.old))
+      fault-beside (inl x) = inl (x.0, x.1, (still.same, x.2.1))
+      fault-beside (inr x) = absurd x.1
 
 -- ---- a replay of the schedule
 
@@ -246,16 +257,17 @@ module _ (Value : Type 0) (form : FileForm Value) (sound : IsForm form) (limits 
     (replay : Value → Replay)
     (file schedule out : Seen) (answer : Status) (value : Value)
     (holds : IfSome file.old (λ f. form.Holds f value))
-    (count : file.now ≡ file.before) (replayed : IsReplay (replay value) limits schedule out answer)
+    (count : file.now ≡ file.before) (gave : file.refused ≡ false)
+    (replayed : IsReplay (replay value) limits schedule out answer)
   where
     replayed-bytes : (f : Text) → form.Holds f value → (s : Text) (before : Text)
-        → Ends (Says ((replay value).says s)) ((replay value).Leaves s schedule.new before out.new)
-        before out.new answer
+        → Ends (IsSaid ((replay value).says s))
+        ((replay value).Leaves s schedule.new before out.new) before out.new answer
         → Ends (TaskVerdict (Replays Value form limits replay) f s)
         (FaultLeaves (Replays Value form limits replay) file.before file.now f s schedule.new
         before out.new) before out.new answer
     replayed-bytes f has s before ends =
-        ends-map (Says ((replay value).says s)) (FileVerdict form (λ v. (replay v).says s) f)
+        ends-map (IsSaid ((replay value).says s)) (FileVerdict form (λ v. (replay v).says s) f)
         (λ status text said. inr (value, has, said))
         (file-says form sound (λ v. (replay v).says s) f value has) _ _
         (λ leaves. inr (count, (value, has, leaves))) before out.new answer ends
@@ -264,14 +276,19 @@ module _ (Value : Type 0) (form : FileForm Value) (sound : IsForm form) (limits 
         file.old file.new
         → IsRun (Replays Value form limits replay) file schedule out answer
     run-replayed ended taken = record {
-      bytes = IfSome_then file.old holds (λ f has. IfSome_then schedule.old replayed.bytes
-          (λ s x. IfSome_then out.old x (λ before ends. replayed-bytes f has s before ends)));
-      exact = IfSome_then file.old holds (λ f has. IfSome_then schedule.old replayed.exact
-          (λ s is status text verdict.
-          subst (λ (t : Status). IsOrFails t answer)
-          (sym (file-says form sound (λ v. (replay v).says s) f value has status text verdict).0)
-          is));
-      usage = λ e. subst IsEndOfReplay e replayed.ends;
+      bytes = IfSome_then file.old holds (λ f has. (
+        λ text refuses s. absurd (sound.not_both f text value has refuses),
+        IfSome_then schedule.old replayed.bytes
+            (λ s x. IfSome_then out.old x (λ before ends. replayed-bytes f has s before ends)),
+      ));
+      exact = IfSome_then file.old holds (λ f has. (
+        λ text refuses s. absurd (sound.not_both f text value has refuses),
+        IfSome_then schedule.old replayed.exact (λ s is status text verdict.
+            subst (λ (t : Status). IsOrFails t answer)
+            (sym (file-says form sound (λ v. (replay v).says s) f value has status text verdict).0)
+            is),
+      ));
+      usage = λ e. subst ReachesSchedule e replayed.ends;
       read_fault = λ e. inr (
         count,
         tt,
@@ -294,9 +311,10 @@ module _ (Value : Type 0) (form : FileForm Value) (sound : IsForm form) (limits 
       schedule_end = λ e r. replayed.schedule_end e;
       schedule_taken = replayed.schedule_taken;
       decided = λ e. (value, holds, replayed.decided e);
-      file_first = λ e. absurd (subst IsEndOfReplay e replayed.ends);
+      file_first = λ e. absurd (subst ReachesSchedule e replayed.ends);
       refused = IfSome_then file.old holds (λ f has refuses. absurd
           (sound.not_both f refuses.0 value has refuses.1));
+      gave = λ is. (inr gave, replayed.gave is);
       written = replayed.written;
     }
 
@@ -305,7 +323,7 @@ pub replay-unbegun : (replay : Replay) (limits : Limits) (schedule out : Seen) �
     → IsStill out → IsReplay replay limits schedule out NoMemory
 replay-unbegun replay limits schedule out still still_out = record {
   bytes = told schedule.old _ (λ s told_schedule. told out.old _ (λ before e.
-      partly-nothing (Says (replay.says s)) (task-one (Writes (replay.says s)) tt [] []) ⊥ before
+      partly-nothing (IsSaid (replay.says s)) (task-one (Writes (replay.says s)) tt [] []) ⊥ before
       out.new (still_out.left ∙ e)));
   exact = told schedule.old _ (λ s e. inr (inr (inr refl)));
   ends = tt;
@@ -314,6 +332,7 @@ replay-unbegun replay limits schedule out still still_out = record {
   schedule_end = λ e. absurd (cc);
   schedule_taken = still-taken schedule still (most_taken limits);
   decided = λ e. absurd (cc);
+  gave = λ is. absurd is;
   written = λ is. absurd is;
 }
 
@@ -357,17 +376,6 @@ module _ (task : Task) (file schedule out : Seen) (answer : Status)
       (λ f s exact status text verdict. exact-complete status answer
       (run-unfailed no_file no_schedule) (λ e. no_write (run-unwritten e))
       (exact status text verdict)) run.exact
-
--- words that are refused have no form
-pub refused-words : (command : Option Command) → RefusesWords (describe command).task
-    → command ≡ None
-refused-words None e = refl
-refused-words (Some Print) e = absurd e
-refused-words (Some Check) e = absurd e
-refused-words (Some (Rv n)) e = absurd e
-refused-words (Some (TableText mode)) e = absurd e
-refused-words (Some (TableJson mode)) e = absurd e
-refused-words (Some (ExampleText which)) e = absurd (cc)
 
 -- a run over words that have no form
 pub no-form : (file schedule out : Seen) (answer : Status)

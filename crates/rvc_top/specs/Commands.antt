@@ -8,9 +8,9 @@ use Rattle.proto_model.specs.Numbered.{CheckedProtocol}
 use Rattle.proto_model.specs.declared.protocol.Protocol.{Protocol}
 use Rattle.schedule_replay.specs.Play.{Play}
 use Rattle.schedule_replay.specs.Limits.{schedule_limits}
-use Rattle.schedule_replay.specs.Played.{Stop, Whole, AtLine, TooMany, Halted, played, trace}
+use Rattle.schedule_replay.specs.Played.{Stop, AtEnd, AtLine, TooMany, Halted, played, trace}
 use Rattle.schedule_replay.specs.Replayed.{WritesSo}
-use Rattle.schedule_replay.specs.RvTrace.{rv_play, rv_standing}
+use Rattle.schedule_replay.specs.RvTrace.{rv_play, rv_watched}
 use Rattle.schedule_replay.specs.declared.limits.Limits.{Limits}
 use Rattle.schedule_replay.specs.declared.replaying.Replayed.TheVariants as replay
 use Rattle.controller_table.specs.Sound.{table_in}
@@ -40,7 +40,8 @@ abbrev pub done : Text → Said
 done text = record { status = Done; text = text }
 
 -- What is done with a schedule: what is said of it, where it ends, and what a read fault of it
--- leaves, by the schedule, what is left of it, and what the sink took before and has taken now.
+-- leaves in the sink, by the schedule, what is left of it, and what the sink took before and has
+-- taken now.
 pub record Replay : Type 1 where
   pub says : Text → Said
   pub stop : Text → Stop
@@ -60,20 +61,22 @@ pub record Description : Type 1 where
   pub task : Task
 
 -- A command whose words have no numbers.
-abbrev pub plain : Task → Description
-plain task = record { Numbers = Unit {0}; task = task }
+abbrev pub without_numbers : Task → Description
+without_numbers task = record { Numbers = Unit {0}; task = task }
 
 -- ---- a schedule that is played
 
--- What is said of a schedule that ends so, with this trace: it is done, or halted by a broken
--- claim, with the trace; or it is refused, and the text for that follows the trace.
+-- What is said of a schedule that ends so, with this trace. Where it was played to its end, the run
+-- is done with the trace. Where a claim is broken, the run ends with the trace too, which says so.
+-- Where the schedule is refused, the text for that follows the trace.
 abbrev pub said_at : Stop → Text → Said
-said_at Whole text = done text
+said_at AtEnd text = done text
 said_at (AtLine line) text = record { status = ScheduleRefused; text = text ++ bad_line_text line }
 said_at TooMany text = record { status = ScheduleRefused; text = text ++ too_many_text }
 said_at (Halted lines claim) text = record { status = ClaimBroken; text = text }
 
--- The schedule is played within these limits, from this state on.
+-- The schedule is played within these limits, from this state on. What is said of it and where it
+-- ends are those of the playing; a read fault leaves the blocks of the lines whose LF was taken.
 abbrev pub played_so : {State Item : Type 0} → Play State Item → Limits → State → Replay
 played_so play limits start = record {
   says = λ schedule. said_at (played play limits start schedule).stop
@@ -83,32 +86,32 @@ played_so play limits start = record {
       replay.ReadFault;
 }
 
--- A schedule of events is played on the protocol's rendezvous meaning with n remotes.
+-- A schedule of events is played on the protocol's rendezvous meaning with n remotes, and the
+-- file's claims are looked at before the first line and after each event.
 abbrev pub rv_replay : ℕ → CheckedProtocol → Replay
-rv_replay n protocol = played_so rv_play schedule_limits (rv_standing protocol.protocol n)
+rv_replay n protocol = played_so rv_play schedule_limits (rv_watched protocol n)
 
 -- ---- the commands
 
 -- No command: the text that the words have no form. `print`: the laid-out text of the protocol that
 -- the file spells. `check`: the numbers of the well-formed protocol's parts. `rv`: the trace of a
--- schedule of events on its rendezvous meaning with n remotes, from 1 to 64. `table` and `json`:
--- the text and the JSON of its table in a mode. `example`: the text of the example.
+-- schedule of events on its rendezvous meaning with n remotes, from 1 to 64, up to where a claim of
+-- the file is broken. `table` and `json`: the text and the JSON of its table in a mode. `example`:
+-- the text of the example.
 abbrev pub describe : Option Command → Description
-describe None = plain (Writes record { status = Usage; text = usage_text })
-describe (Some Print) = plain (Reads Protocol spelled_form (λ p. done (laid_out p)))
-describe (Some Check) = plain (Reads CheckedProtocol checked_form
+describe None = without_numbers (Writes record { status = Usage; text = usage_text })
+describe (Some Print) = without_numbers (Reads Protocol spelled_form (λ p. done (laid_out p)))
+describe (Some Check) = without_numbers (Reads CheckedProtocol checked_form
     (λ protocol. done (ok_text protocol.protocol)))
 describe (Some (Rv n)) = record {
   Numbers = (1 ≤ n) × (n ≤ 64);
   task = Replays CheckedProtocol checked_form schedule_limits (rv_replay n);
 }
-describe (Some (TableText mode)) =
-    plain (Reads CheckedProtocol checked_form
+describe (Some (TableText mode)) = without_numbers (Reads CheckedProtocol checked_form
     (λ protocol. done (table_text (table_in protocol.protocol mode))))
-describe (Some (TableJson mode)) =
-    plain (Reads CheckedProtocol checked_form
+describe (Some (TableJson mode)) = without_numbers (Reads CheckedProtocol checked_form
     (λ protocol. done (table_json (table_in protocol.protocol mode))))
-describe (Some (ExampleText which)) = plain (Writes (done (example_text which)))
+describe (Some (ExampleText which)) = without_numbers (Writes (done (example_text which)))
 
 -- What a run over these words does.
 abbrev pub asked : List Text → Task

@@ -28,7 +28,7 @@ pub data Kind : Type 0 where
   WriteFailed : Kind
   Wanting : Kind
 
--- what each status comes of
+-- What each status comes of.
 abbrev pub kind_of : Status → Kind
 kind_of Done = Decided AtEnd
 kind_of Usage = Decided AtWords
@@ -72,22 +72,22 @@ write_failed Wanting = false
 -- ---- what the sink has taken
 
 -- What was taken before is now followed by the text of the verdict with this status.
-abbrev pub Whole : (Status → Text → Type 0) → Text → Option Text → Status → Type 0
-Whole verdict before now status =
+abbrev pub Written : (Status → Text → Type 0) → Text → Option Text → Status → Type 0
+Written verdict before now status =
     (text : Text) × verdict status text × (now ≡ Some (before ++ text))
 
 -- What was taken before is now followed by a front of the verdict's text.
-abbrev pub Partly : (Status → Text → Type 0) → Text → Option Text → Type 0
-Partly verdict before now =
+abbrev pub PartWritten : (Status → Text → Type 0) → Text → Option Text → Type 0
+PartWritten verdict before now =
     (status : Status) (text : Text) → verdict status text
     → (count : ℕ) × (now ≡ Some (before ++ take count text))
 
--- the same by the kind of the status
+-- What the sink took before and has taken now, by what the status comes of.
 abbrev pub EndsBy : Kind → (Status → Text → Type 0) → Type 0 → Text → Option Text → Status → Type 0
-EndsBy (Decided reach) verdict fault before now status = Whole verdict before now status
+EndsBy (Decided reach) verdict fault before now status = Written verdict before now status
 EndsBy ReadFailed verdict fault before now status = fault
-EndsBy WriteFailed verdict fault before now status = Partly verdict before now
-EndsBy Wanting verdict fault before now status = Partly verdict before now
+EndsBy WriteFailed verdict fault before now status = PartWritten verdict before now
+EndsBy Wanting verdict fault before now status = PartWritten verdict before now
 
 -- What the sink took before and has taken now, where the run ends so: after the status of a verdict
 -- its text is written, after a read fault what is said here, after a write fault or want of memory
@@ -137,13 +137,15 @@ most_of_schedule (Writes said) = 0
 most_of_schedule (Reads Value form says) = 0
 most_of_schedule (Replays Value form limits replay) = most_taken limits
 
--- This is so of the file and of the schedule, where each tells its bytes that is read; of what is
--- not read it is so whatever it holds.
+-- This is so of the file and of the schedule, where each of them that is read tells its bytes. Where
+-- one isn't read, it is so whatever that one holds; and so it is of the schedule where the file is
+-- refused.
 abbrev pub WhereTold : Task → Option Text → Option Text → (Text → Text → Type 0) → Type 0
 WhereTold (Writes said) file schedule fact = (f s : Text) → fact f s
 WhereTold (Reads Value form says) file schedule fact = IfSome file (λ f. (s : Text) → fact f s)
 WhereTold (Replays Value form limits replay) file schedule fact =
-    IfSome file (λ f. IfSome schedule (λ s. fact f s))
+    IfSome file (λ f. ((text : Text) → form.Refuses f text → (s : Text) → fact f s)
+    × IfSome schedule (λ s. fact f s))
 
 -- The file is refused.
 abbrev pub RefusesFile : Task → Text → Type 0
@@ -178,8 +180,8 @@ FaultIsOf task file_before file_now schedule_before schedule_now stopped =
 
 -- ---- what is left of a schedule
 
--- A status that is decided in the schedule is the one that is said of it by some value, one that the
--- file holds where it tells its bytes, and few bytes past the one that decides so were taken.
+-- A status that is decided in the schedule is the one that is said of it by some value, one that
+-- the file holds where it tells its bytes, and few bytes past the one that decides so were taken.
 abbrev pub DecidesSchedule : Task → Option Text → Option Text → Option Text → Status → Type 0
 DecidesSchedule (Writes said) file schedule left status = ⊥
 DecidesSchedule (Reads Value form says) file schedule left status = ⊥

@@ -15,6 +15,20 @@ pub record FileForm (Value : Type 0) : Type 1 where
   pub Refuses : Text → Text → Type 0
   pub Holds : Text → Value → Type 0
 
+-- A file is refused with a text or holds a value.
+abbrev pub RefusesOrHolds : {Value : Type 0} → FileForm Value → Text → Type 0
+RefusesOrHolds {Value} form file =
+    ((text : Text) × form.Refuses file text) ⊎ ((value : Value) × form.Holds file value)
+
+-- What a form of files owes: each file is refused or holds a value, and not both, and there is one
+-- text and one value.
+pub record IsForm {Value : Type 0} (form : FileForm Value) : Type 0 where
+  pub decides : (file : Text) → RefusesOrHolds form file
+  pub not_both : (file text : Text) (value : Value) → form.Holds file value → form.Refuses file text
+      → ⊥
+  pub refused_once : (file t u : Text) → form.Refuses file t → form.Refuses file u → t ≡ u
+  pub held_once : (file : Text) (a b : Value) → form.Holds file a → form.Holds file b → a ≡ b
+
 -- ---- a file that spells a protocol
 
 -- The file is refused with this text. It has more than 65,536 bytes; or it has no more and spells
@@ -59,5 +73,4 @@ HoldsProtocol file protocol =
 
 -- A file that is to spell a well-formed protocol.
 abbrev pub checked_form : FileForm CheckedProtocol
-checked_form =
-    record { limit = file_limit; Refuses = RefusesUnchecked; Holds = HoldsProtocol }
+checked_form = record { limit = file_limit; Refuses = RefusesUnchecked; Holds = HoldsProtocol }

@@ -1,26 +1,15 @@
 -- What a reply is, and what writing it leaves.
-use Rattle.std.specs.Prelude.{◌≡◌, ◌⊎◌, Bool, true, false, Option, Some, Result, Ok, Err}
+use Rattle.std.specs.Prelude.{◌≡◌, ◌⊎◌, Option, Result, Ok, Err}
 use Rattle.std.specs.Io.KnownBytes.{append_known}
 use Rattle.proto_model.specs.Tokens.{Text}
-use Rattle.proto_model.specs.Numbered.{CheckedProtocol}
 use Rattle.rv_base.specs.Whole.{TakesPart}
 use Rattle.schedule_replay.specs.declared.replaying.Replayed.{Replayed}
 use Rattle.schedule_replay.specs.declared.replaying.Replayed.TheVariants as replay
-use Rattle.controller_table.specs.Sound.{table_in}
-use Rattle.table_printer.specs.TableText.{table_text}
-use Rattle.table_printer.specs.TableJson.{table_json}
-use Rattle.rvc_top.specs.Texts.{ok_text, bad_line_text, too_many_text}
-use Rattle.rvc_top.specs.Commands.{Task, describe}
+use Rattle.rvc_top.specs.Texts.{bad_line_text, too_many_text}
+use Rattle.rvc_top.specs.Commands.{Task}
 use Rattle.rvc_top.specs.Verdict.{TaskVerdict}
 use Rattle.rvc_top.specs.Endings.{Kind, Decided, ReadFailed, WriteFailed, Wanting, AtWords, AtFile}
 use Rattle.rvc_top.specs.Endings.{AtSchedule, AtEnd, kind_of}
-use Rattle.rvc_top.specs.declared.command.Command.{Command}
-use Rattle.rvc_top.specs.declared.command.Command.TheVariants as named
-use Rattle.rvc_top.specs.declared.file_command.CheckedCommand.{CheckedCommand}
-use Rattle.rvc_top.specs.declared.file_command.CheckedCommand.TheVariants.{Check, TableText}
-use Rattle.rvc_top.specs.declared.file_command.CheckedCommand.TheVariants.{TableJson}
-use Rattle.rvc_top.specs.declared.file_command.FileCommand.{FileCommand}
-use Rattle.rvc_top.specs.declared.file_command.FileCommand.TheVariants.{Print, OnChecked}
 use Rattle.rvc_top.specs.declared.reply.Reply.{Reply}
 use Rattle.rvc_top.specs.declared.reply.Fault.{Fault}
 use Rattle.rvc_top.specs.declared.reply.Fault.TheVariants.{Read, NoMemory as WantsMemory}
@@ -30,47 +19,24 @@ use Rattle.rvc_top.specs.declared.status.Status.TheVariants.{WriteFault, NoMemor
 
 -- ---- a reply to a file
 
--- What the command is called among all commands.
-abbrev pub command_of : FileCommand → Command
-command_of Print = named.Print
-command_of (OnChecked Check) = named.Check
-command_of (OnChecked (TableText mode)) = named.TableText mode
-command_of (OnChecked (TableJson mode)) = named.TableJson mode
+-- the kinds of status that the file alone decides
+abbrev pub FileDecidesKind : Kind → Type 0
+FileDecidesKind (Decided AtWords) = ⊥
+FileDecidesKind (Decided AtFile) = Unit {0}
+FileDecidesKind (Decided AtSchedule) = ⊥
+FileDecidesKind (Decided AtEnd) = Unit {0}
+FileDecidesKind ReadFailed = ⊥
+FileDecidesKind WriteFailed = ⊥
+FileDecidesKind Wanting = ⊥
 
--- What the command does.
-abbrev pub task_of : FileCommand → Task
-task_of c = (describe (Some (command_of c))).task
+-- The file alone decides so: it is refused, or the command is done with it.
+abbrev pub FileDecides : Status → Type 0
+FileDecides status = FileDecidesKind (kind_of status)
 
--- The text with which the command is done on a well-formed protocol.
-abbrev pub checked_text : CheckedCommand → CheckedProtocol → Text
-checked_text Check protocol = ok_text protocol.protocol
-checked_text (TableText mode) protocol = table_text (table_in protocol.protocol mode)
-checked_text (TableJson mode) protocol = table_json (table_in protocol.protocol mode)
-
--- the kinds of status of a reply to a file
-abbrev pub ReplyKind : Kind → Type 0
-ReplyKind (Decided AtWords) = ⊥
-ReplyKind (Decided AtFile) = Unit {0}
-ReplyKind (Decided AtSchedule) = ⊥
-ReplyKind (Decided AtEnd) = Unit {0}
-ReplyKind ReadFailed = ⊥
-ReplyKind WriteFailed = ⊥
-ReplyKind Wanting = ⊥
-
--- The status of a reply to a file: it is refused, or the command is done with it.
-abbrev pub IsReplyEnd : Status → Type 0
-IsReplyEnd status = ReplyKind (kind_of status)
-
--- This is replied to the file by a command that does this.
+-- This is replied to the file by a command that does this, whatever the schedule holds.
 abbrev pub IsReplyTo : Task → Text → Reply → Type 0
 IsReplyTo task file reply =
     (schedule : Text) → TaskVerdict task file schedule reply.status reply.text.items
-
--- There is no reply since the source failed.
-abbrev pub reading_failed : {A : Type 0} → Result A Fault → Bool
-reading_failed (Ok _) = false
-reading_failed (Err Read) = true
-reading_failed (Err WantsMemory) = false
 
 -- ---- what is written
 

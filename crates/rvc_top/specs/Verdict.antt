@@ -3,30 +3,31 @@
 use Rattle.std.specs.Prelude.{◌≡◌, ◌⊎◌, List}
 use Rattle.proto_model.specs.Tokens.{Text}
 use Rattle.rvc_top.specs.Forms.{FileForm}
-use Rattle.rvc_top.specs.Commands.{Said, Replay, Task, Writes, Reads, Replays, asked}
+use Rattle.rvc_top.specs.Commands.{Said, Task, Writes, Reads, Replays, asked}
 use Rattle.rvc_top.specs.declared.status.Status.{Status}
 use Rattle.rvc_top.specs.declared.status.Status.TheVariants.{FileRefused}
 
 -- This is said, and nothing else.
-abbrev pub Says : Said → Status → Text → Type 0
-Says said status text = (status ≡ said.status) × (text ≡ said.text)
+abbrev pub IsSaid : Said → Status → Text → Type 0
+IsSaid said status text = (status ≡ said.status) × (text ≡ said.text)
 
 -- The file is refused, or something is said of the value that it holds.
 abbrev pub FileVerdict : {Value : Type 0} → FileForm Value → (Value → Said) → Text → Status → Text
     → Type 0
 FileVerdict {Value} form says file status text =
     ((status ≡ FileRefused) × form.Refuses file text)
-    ⊎ ((value : Value) × form.Holds file value × Says (says value) status text)
+    ⊎ ((value : Value) × form.Holds file value × IsSaid (says value) status text)
 
 -- The verdict on a file and a schedule by what a command does.
 abbrev pub TaskVerdict : Task → Text → Text → Status → Text → Type 0
-TaskVerdict (Writes said) file schedule status text = Says said status text
+TaskVerdict (Writes said) file schedule status text = IsSaid said status text
 TaskVerdict (Reads Value form says) file schedule status text =
     FileVerdict form says file status text
 TaskVerdict (Replays Value form limits replay) file schedule status text =
     FileVerdict form (λ value. (replay value).says schedule) file status text
 
--- The run over these words, this file and this schedule ends with this status and writes this text.
+-- The run over these words, this file and this schedule ends with this status and writes this text,
+-- where no source and no sink fails and there is memory.
 abbrev pub Verdict : List Text → Text → Text → Status → Text → Type 0
 Verdict words = TaskVerdict (asked words)
 

@@ -1,13 +1,15 @@
-//! The protocol file, read to its end and as the protocol that it spells, or refused.
+//! The protocol file, read to its end and taken for the value that a command wants of it, or
+//! refused.
 
-ghost use Rattle.std.specs.Prelude.{◌≡◌, ◌+◌, IfOk, IfSome};
+ghost use Rattle.std.specs.Prelude.{◌≡◌, ◌+◌, false, IfOk, IfSome};
+ghost use Rattle.rv_base.specs.Outside.{RisesWhere};
 ghost use Rattle.rv_base.specs.Whole.{TakesAtMost, file_limit};
-ghost use Rattle.schedule_replay.specs.Replayed.{RisesWhere};
 ghost use Rattle.rvc_top.specs.Texts.{too_long_text, fault_text};
-ghost use Rattle.rvc_top.specs.FileRead.{IsRead, HasLines, ReadToEnd};
-ghost use Rattle.rvc_top.specs.Reply.{reading_failed};
+ghost use Rattle.rvc_top.specs.Forms.{FileForm};
+ghost use Rattle.rvc_top.specs.FileRead.{IsFile, IsRead, HasLines, ReadToEnd, is_read_error};
 
 use crate::reply::Fault;
+use proto_model::Protocol;
 use protocol_reader::{ReadError, Spelled, read};
 use rv_base::{FILE_LIMIT, Gathered, NoMemory, Source, read_whole};
 use std::alloc::Global;
@@ -17,20 +19,51 @@ const SYNTAX: u8 = 1;
 
 /// What reading the protocol file came to.
 #[derive(Debug, Drop)]
-pub enum FileRead {
-    /// It spells this protocol.
-    Spelled(Spelled),
+pub enum FileRead<V> {
+    /// It holds this value.
+    Holds(V),
     /// It is refused, and this text says why.
     Refused(Vec<u8>),
 }
 
-/// Reads the protocol file to its end, or to one byte past the limit of a file.
-pub fn read_file<P: Source>(alloc: Global, protocol: &mut P) -> Result<FileRead, Fault>
+/// A value for which a command takes the protocol file.
+pub trait FromFile: Drop {
+    /// The form in which a file holds such a value.
+    ghost form: { FileForm Self };
+
+    /// Reads the protocol file to its end, or to one byte past the limit of its form, and takes it
+    /// for the value that it holds.
+    fn from_file<P: Source>(alloc: Global, protocol: &mut P) -> Result<FileRead<Self>, Fault>
+        ensures bytes { IfSome (P.left protocol.old) (λ file. IfOk result (IsFile form file)) }
+        ensures end { IfOk result (ReadToEnd (P.left protocol.new) (P.ended protocol.new)) }
+        ensures taken { TakesAtMost (form.limit + 1) (P.left protocol.old) (P.left protocol.new) }
+        ensures gave { IfOk result (λ _. P.refused protocol.new ≡ false) }
+        ensures count { RisesWhere (is_read_error result)
+            (P.faults protocol.old) (P.faults protocol.new) };
+}
+
+impl FromFile for Protocol {
+    ghost use Rattle.rvc_top.specs.Forms.{spelled_form};
+
+    ghost form = { spelled_form };
+
+    fn from_file<P: Source>(alloc: Global, protocol: &mut P) -> Result<FileRead<Protocol>, Fault> {
+        match read_file(alloc, protocol)? {
+            FileRead::Holds(spelled) => Ok(FileRead::Holds(spelled.protocol)),
+            FileRead::Refused(text) => Ok(FileRead::Refused(text)),
+        }
+    }
+}
+
+/// Reads the protocol file to its end, or to one byte past the limit of a file, as the protocol
+/// that it spells.
+pub fn read_file<P: Source>(alloc: Global, protocol: &mut P) -> Result<FileRead<Spelled>, Fault>
     ensures bytes { IfSome (P.left protocol.old) (λ file. IfOk result (IsRead file)) }
     ensures lines { IfOk result HasLines }
     ensures end { IfOk result (ReadToEnd (P.left protocol.new) (P.ended protocol.new)) }
     ensures taken { TakesAtMost (file_limit + 1) (P.left protocol.old) (P.left protocol.new) }
-    ensures count { RisesWhere (reading_failed result)
+    ensures gave { IfOk result (λ _. P.refused protocol.new ≡ false) }
+    ensures count { RisesWhere (is_read_error result)
         (P.faults protocol.old) (P.faults protocol.new) }
 {
     match read_whole(alloc, protocol, FILE_LIMIT) {
@@ -42,12 +75,12 @@ pub fn read_file<P: Source>(alloc: Global, protocol: &mut P) -> Result<FileRead,
 }
 
 // What the bytes of the file are.
-fn file_of(alloc: Global, bytes: &[u8]) -> Result<FileRead, NoMemory>
+fn file_of(alloc: Global, bytes: &[u8]) -> Result<FileRead<Spelled>, NoMemory>
     ensures reads { IfOk result (IsRead bytes.now) }
     ensures lines { IfOk result HasLines }
 {
     match read(alloc, bytes) {
-        Ok(spelled) => Ok(FileRead::Spelled(spelled)),
+        Ok(spelled) => Ok(FileRead::Holds(spelled)),
         Err(ReadError::Syntax { line }) => Ok(FileRead::Refused(fault_on(alloc, line, SYNTAX)?)),
         Err(ReadError::TooLong) => Ok(FileRead::Refused(too_long(alloc)?)),
         Err(ReadError::NoMemory) => Err(NoMemory),

@@ -4,10 +4,12 @@
 //! - `command`: the words of the command line, and what they mean.
 //! - `status`: how a run ends.
 //! - `top`: the call itself, which does what the words ask.
-//! - `file` and `checked_file`: the protocol file, read to its end, and checked; or refused.
-//! - `file_command`: what the commands that read the file alone reply to it.
-//! - `replay`: a schedule is replayed on any machine; `rv`: on the rendezvous meaning of the file's
-//!   protocol.
+//! - `file` and `checked_file`: the protocol file, read to its end and taken for the value that a
+//!   command wants of it, or refused.
+//! - `telling`: a command that reads the file alone; `tellings`: what each of them says of the
+//!   value that the file holds.
+//! - `replay`: a schedule is replayed by any player; `rv`: on the rendezvous meaning of the file's
+//!   protocol, up to where a claim of the file is broken.
 //! - `reply`: a text is written, and the run ends with it.
 //! - `example`: the example protocols.
 //! - `steady`: the call over sources and a sink that never fail.
@@ -22,13 +24,14 @@ mod checked_file;
 mod command;
 mod example;
 mod file;
-mod file_command;
 mod laws;
 mod replay;
 mod reply;
 mod rv;
 mod status;
 mod steady;
+mod telling;
+mod tellings;
 mod top;
 
 pub use command::{Command, words_mean};

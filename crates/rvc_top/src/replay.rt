@@ -1,12 +1,13 @@
-//! A schedule is replayed on a machine, and the run ends with it.
+//! A schedule is replayed by a player, and the run ends with it.
 
 ghost use Rattle.std.specs.Prelude.{◌≡◌, ◌⊎◌, ◌<◌, ◌^◌, false, not, ◌&&◌, IfOk};
-ghost use Rattle.schedule_replay.specs.Replayed.{RisesWhere, is_write_fault};
+ghost use Rattle.rv_base.specs.Outside.{RisesWhere};
+ghost use Rattle.schedule_replay.specs.Replayed.{is_write_fault};
 ghost use Rattle.rvc_top.specs.Texts.{bad_line_text};
 ghost use Rattle.rvc_top.specs.Commands.{played_so};
 ghost use Rattle.rvc_top.specs.Endings.{IsDecided, kind_of, write_failed};
 ghost use Rattle.rvc_top.specs.Reply.{Delivers, Concludes};
-ghost use Rattle.rvc_top.specs.Runs.{IsReplay, seen};
+ghost use Rattle.rvc_top.specs.Runs.{IsReplay, seen_source, seen_sink};
 
 use crate::Status;
 use crate::reply::deliver;
@@ -16,21 +17,21 @@ use std::alloc::Global;
 
 const TOO_MANY: &[u8] = b"error schedule too long\n";
 
-/// Replays the schedule on the machine, and writes its trace; says so in `out` where the schedule
-/// is refused. Answers how the run ends. A line within the limits has fewer than 2^32 bytes.
-pub fn replay<M: Player, Q: Source, O: Sink>(
+/// Replays the schedule by the player, and writes its trace; says so in `out` where the schedule is
+/// refused. Answers how the run ends. A line within the limits has fewer than 2^32 bytes.
+pub fn replay<R: Player, Q: Source, O: Sink>(
     alloc: Global,
     limits: Limits,
-    machine: &mut M,
+    player: &mut R,
     schedule: &mut Q,
     out: &mut O,
 ) -> Status
     requires { limits.line < 2 ^ 32 }
-    ensures { IsReplay (played_so M.play limits machine.old) limits
-        (seen Q.left Q.faults Q.ended schedule.old schedule.new)
-        (seen O.taken O.faults O.refused out.old out.new) result }
+    ensures { IsReplay (played_so R.play limits player.old) limits
+        (seen_source Q.left Q.faults Q.ended Q.refused schedule.old schedule.new)
+        (seen_sink O.taken O.faults O.refused out.old out.new) result }
 {
-    let replayed = play_schedule(alloc, limits, machine, schedule, out);
+    let replayed = play_schedule(alloc, limits, player, schedule, out);
     conclude(alloc, replayed, out)
 }
 

@@ -2,7 +2,7 @@
 
 ghost use Rattle.std.specs.Prelude.{◌≡◌, ◌⊎◌, false};
 ghost use Rattle.std.specs.Result.{ForOk};
-ghost use Rattle.schedule_replay.specs.Replayed.{RisesWhere};
+ghost use Rattle.rv_base.specs.Outside.{RisesWhere};
 ghost use Rattle.rvc_top.specs.Endings.{IsDecided, kind_of, write_failed};
 ghost use Rattle.rvc_top.specs.Reply.{Delivers, Finishes};
 ghost use Rattle.rvc_top.specs.declared.reply.Fault.TheVariants as fault;

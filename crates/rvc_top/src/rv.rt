@@ -3,21 +3,21 @@
 ghost use Rattle.std.specs.Prelude.{◌≤◌, Some};
 ghost use Rattle.schedule_replay.specs.Limits.{schedule_limits};
 ghost use Rattle.rvc_top.specs.Commands.{describe, rv_replay};
-ghost use Rattle.rvc_top.specs.Runs.{IsRun, IsReplay, seen};
+ghost use Rattle.rvc_top.specs.Runs.{IsRun, IsReplay, seen_source, seen_sink};
 
-use crate::checked_file::{CheckedFile, check_file};
-use crate::file_command::refusal;
+use crate::file::{FileRead, FromFile};
 use crate::replay::replay;
 use crate::reply::finish;
+use crate::telling::refusal;
 use crate::{Command, Status};
-use rendezvous_meaning::RvMachine;
 use rv_base::{NoMemory, Sink, Source};
-use schedule_replay::SCHEDULE_LIMITS;
+use schedule_replay::{RvPlayer, SCHEDULE_LIMITS};
 use star_check::Checked;
 use std::alloc::Global;
 
 /// Replays the schedule of events on the rendezvous meaning of the file's protocol with n remotes,
-/// and writes the trace; or says why the file or the schedule is refused.
+/// up to where a claim of the file is broken, and writes the trace; or says why the file or the
+/// schedule is refused.
 pub fn rv<P: Source, Q: Source, O: Sink>(
     alloc: Global,
     n: u8,
@@ -27,13 +27,13 @@ pub fn rv<P: Source, Q: Source, O: Sink>(
 ) -> Status
     requires { (1 ≤ n) × (n ≤ 64) }
     ensures { IsRun (describe (Some (Command.Rv n))).task
-        (seen P.left P.faults P.ended protocol.old protocol.new)
-        (seen Q.left Q.faults Q.ended schedule.old schedule.new)
-        (seen O.taken O.faults O.refused out.old out.new) result }
+        (seen_source P.left P.faults P.ended P.refused protocol.old protocol.new)
+        (seen_source Q.left Q.faults Q.ended Q.refused schedule.old schedule.new)
+        (seen_sink O.taken O.faults O.refused out.old out.new) result }
 {
-    match check_file(alloc, protocol) {
-        Ok(CheckedFile::WellFormed(checked)) => replay_rv(alloc, n, &checked, schedule, out),
-        Ok(CheckedFile::Refused(text)) => finish(out, Ok(refusal(text))),
+    match Checked::from_file(alloc, protocol) {
+        Ok(FileRead::Holds(checked)) => replay_rv(alloc, n, &checked, schedule, out),
+        Ok(FileRead::Refused(text)) => finish(out, Ok(refusal(text))),
         Err(fault) => finish(out, Err(fault)),
     }
 }
@@ -48,11 +48,11 @@ fn replay_rv<Q: Source, O: Sink>(
 ) -> Status
     requires { (1 ≤ n) × (n ≤ 64) }
     ensures { IsReplay (rv_replay n checked.now) schedule_limits
-        (seen Q.left Q.faults Q.ended schedule.old schedule.new)
-        (seen O.taken O.faults O.refused out.old out.new) result }
+        (seen_source Q.left Q.faults Q.ended Q.refused schedule.old schedule.new)
+        (seen_sink O.taken O.faults O.refused out.old out.new) result }
 {
-    match RvMachine::new(alloc, checked, n) {
-        Ok(mut machine) => replay(alloc, SCHEDULE_LIMITS, &mut machine, schedule, out),
+    match RvPlayer::new(alloc, checked, n) {
+        Ok(mut player) => replay(alloc, SCHEDULE_LIMITS, &mut player, schedule, out),
         Err(NoMemory) => Status::NoMemory,
     }
 }

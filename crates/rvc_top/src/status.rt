@@ -4,24 +4,25 @@
 #[derive(Clone, Copy, Debug, PartialEq, Eq)]
 pub enum Status {
     /// All that the words ask for is written, and the last read of each source that their command
-    /// uses answered that nothing is left.
+    /// uses answered that nothing is left. Where a schedule was played, no claim was broken.
     Done = 0,
     /// The words have no form. No source was read, and `error usage` is written.
     Usage = 1,
     /// The protocol file has more bytes than a file may have, or it spells no protocol that the
     /// command takes. The text that says so is written, and the schedule was not read.
     FileRefused = 2,
-    /// The schedule has a malformed line, one that is too long, or too many lines. The trace of the
-    /// lines before is written, and the text that says so.
+    /// The schedule has a malformed line, one that is too long, or too many lines, and no claim is
+    /// broken before. The trace of the lines before is written, and the text that says so.
     ScheduleRefused = 3,
     /// A source that the command uses failed. Nothing is written after it.
     ReadFault = 4,
     /// The sink failed. A front of what the run would have written is written.
     WriteFault = 5,
-    /// There was no memory. A front of what the run would have written is written.
+    /// There was no memory, or a source or the sink had none for a call. A front of what the run
+    /// would have written is written.
     NoMemory = 6,
-    /// A claim of the file is broken as the schedule is played. The trace up to there is written,
-    /// the line that names the claim, and the last text. No run ends so yet, since no file can say
-    /// a claim yet.
+    /// A claim of the file is broken where the schedule is played, at the start or after a line.
+    /// The blocks of the lines up to there are written, behind them the line that names the claim,
+    /// and the last text. No line after that one was played.
     ClaimBroken = 7,
 }

@@ -2,7 +2,7 @@
 
 ghost use Rattle.std.specs.Prelude.{◌≢◌, map, string_bytes, Some};
 ghost use Rattle.rvc_top.specs.Verdict.{Verdict};
-ghost use Rattle.rvc_top.specs.Endings.{Whole};
+ghost use Rattle.rvc_top.specs.Endings.{Written};
 
 use crate::{Status, rvc};
 use rv_base::{SteadySink, SteadySource};
@@ -20,7 +20,7 @@ pub fn rvc_steady(
     ensures read_fault { result ≢ Status.ReadFault }
     ensures write_fault { result ≢ Status.WriteFault }
     ensures whole { result ≢ Status.NoMemory
-        → Whole (Verdict (map string_bytes words.now) protocol.old.left schedule.old.left)
+        → Written (Verdict (map string_bytes words.now) protocol.old.left schedule.old.left)
         out.old.taken (Some out.new.taken) result }
 {
     rvc(alloc, words, protocol, schedule, out)

@@ -2,9 +2,8 @@
 
 ghost use Rattle.std.specs.Prelude.{◌≡◌, ◌≤◌, ◌⊎◌, true, false, map, string_bytes, IfSome, None};
 ghost use Rattle.std.specs.Io.KnownBytes.{IsAtEnd};
-ghost use Rattle.rv_base.specs.Outside.{Rose};
+ghost use Rattle.rv_base.specs.Outside.{RisesWhere, Rose};
 ghost use Rattle.rv_base.specs.Whole.{TakesAtMost};
-ghost use Rattle.schedule_replay.specs.Replayed.{RisesWhere};
 ghost use Rattle.rvc_top.specs.Words.{meaning};
 ghost use Rattle.rvc_top.specs.Commands.{asked, describe};
 ghost use Rattle.rvc_top.specs.Verdict.{Verdict};
@@ -12,12 +11,13 @@ ghost use Rattle.rvc_top.specs.Endings.{ReadsFile, ReadsSchedule, RefusesFile, W
 ghost use Rattle.rvc_top.specs.Endings.{most_of_file, most_of_schedule, DecidesSchedule};
 ghost use Rattle.rvc_top.specs.Endings.{Ends, FaultLeaves, FaultIsOf, AnswersOrFails, Answers};
 ghost use Rattle.rvc_top.specs.Endings.{IsDecided, IsOfSchedule, kind_of, write_failed};
-ghost use Rattle.rvc_top.specs.Runs.{IsRun, seen};
+ghost use Rattle.rvc_top.specs.Runs.{IsRun, seen_source, seen_sink};
 
 use crate::example::example_text;
-use crate::file_command::{CheckedCommand, FileCommand, reply};
-use crate::reply::{deliver, finish};
+use crate::reply::deliver;
 use crate::rv::rv;
+use crate::telling::tell;
+use crate::tellings::{Check, Print, TableJson, TableText};
 use crate::{Command, Status, words_mean};
 use rv_base::{Sink, Source};
 use std::alloc::Global;
@@ -33,11 +33,15 @@ pub fn rvc<P: Source, Q: Source, O: Sink>(
     schedule: &mut Q,
     out: &mut O,
 ) -> Status
-    // Where the sink and each source that the command reads tell their bytes, the status and what
-    // is written are those of the verdict. After a write fault or want of memory a front of its
-    // text is written. After a read fault of the file nothing is; after one of the schedule, which
-    // comes only where the file is well-formed, the blocks of the lines whose LF was taken, none of
-    // which is refused.
+    // Where the sink tells its bytes, and so does each source that the command reads, but for the
+    // schedule where the file is refused: after Done, Usage, FileRefused, ScheduleRefused and
+    // ClaimBroken that is the status of the verdict, and its text is written. Done is answered for
+    // `rv` where the whole schedule is played and no claim is broken, and ClaimBroken exactly where
+    // one is, at the start or after a line, and no line before is refused. After a write fault or
+    // want of memory a front of the verdict's text is written. After a read fault of the file
+    // nothing is; after one of the schedule, which comes only where the file is well-formed, the
+    // blocks of the lines whose LF was taken, none of which is refused and after none of which a
+    // claim is broken.
     ensures bytes { WhereTold (asked (map string_bytes words.now))
         (P.left protocol.old) (Q.left schedule.old)
         (λ file steps. IfSome (O.taken out.old) (λ before.
@@ -48,7 +52,9 @@ pub fn rvc<P: Source, Q: Source, O: Sink>(
         before (O.taken out.new) result)) }
 
     // The verdict's status is answered, but for a fault or want of memory; where no count of a
-    // source that the command uses rose, nor that of the sink, but for want of memory alone.
+    // source that the command uses rose, nor that of the sink, but for want of memory alone. So
+    // where the file is well-formed and no line of the schedule is refused, it is Done, or
+    // ClaimBroken exactly where a claim is broken, or NoMemory.
     ensures exact { WhereTold (asked (map string_bytes words.now))
         (P.left protocol.old) (Q.left schedule.old)
         (λ file steps. AnswersOrFails (Verdict (map string_bytes words.now) file steps) result) }
@@ -108,8 +114,11 @@ pub fn rvc<P: Source, Q: Source, O: Sink>(
     ensures schedule_taken { TakesAtMost (most_of_schedule (asked (map string_bytes words.now)))
         (Q.left schedule.old) (Q.left schedule.new) }
 
-    // Where no fault and no want of memory is answered, nothing was to be written or the sink took
-    // something at the last write.
+    // Where no fault and no want of memory is answered, each source is as it was, or its last read
+    // gave bytes or the end; and the sink is as it was, or took something at the last write.
+    ensures gave { IsDecided result
+        → ((protocol.new ≡ protocol.old) ⊎ (P.refused protocol.new ≡ false))
+        × ((schedule.new ≡ schedule.old) ⊎ (Q.refused schedule.new ≡ false)) }
     ensures written { IsDecided result → (out.new ≡ out.old) ⊎ (O.refused out.new ≡ false) }
 {
     run(alloc, words_mean(words), protocol, schedule, out)
@@ -125,26 +134,17 @@ fn run<P: Source, Q: Source, O: Sink>(
 ) -> Status
     requires { (describe command).Numbers }
     ensures { IsRun (describe command).task
-        (seen P.left P.faults P.ended protocol.old protocol.new)
-        (seen Q.left Q.faults Q.ended schedule.old schedule.new)
-        (seen O.taken O.faults O.refused out.old out.new) result }
+        (seen_source P.left P.faults P.ended P.refused protocol.old protocol.new)
+        (seen_source Q.left Q.faults Q.ended Q.refused schedule.old schedule.new)
+        (seen_sink O.taken O.faults O.refused out.old out.new) result }
 {
     match command {
         None => deliver(out, Status::Usage, USAGE),
-        Some(Command::Print) => finish(out, reply(alloc, FileCommand::Print, protocol)),
-        Some(Command::Check) => {
-            let command = FileCommand::OnChecked(CheckedCommand::Check);
-            finish(out, reply(alloc, command, protocol))
-        }
+        Some(Command::Print) => tell(alloc, &Print, protocol, out),
+        Some(Command::Check) => tell(alloc, &Check, protocol, out),
         Some(Command::Rv(n)) => rv(alloc, n, protocol, schedule, out),
-        Some(Command::TableText(mode)) => {
-            let command = FileCommand::OnChecked(CheckedCommand::TableText(mode));
-            finish(out, reply(alloc, command, protocol))
-        }
-        Some(Command::TableJson(mode)) => {
-            let command = FileCommand::OnChecked(CheckedCommand::TableJson(mode));
-            finish(out, reply(alloc, command, protocol))
-        }
+        Some(Command::TableText(mode)) => tell(alloc, &TableText(mode), protocol, out),
+        Some(Command::TableJson(mode)) => tell(alloc, &TableJson(mode), protocol, out),
         Some(Command::Example(which)) => deliver(out, Status::Done, example_text(which)),
     }
 }

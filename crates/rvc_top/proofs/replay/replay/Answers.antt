@@ -12,9 +12,9 @@ use Rattle.rvc_top.proofs.replay.replay.Goals as goal
 
 pub returns : goal.returns
 returns g c =
-    let play = g.M.Player.play in
+    let play = g.R.Player.play in
     let limits = c.args.limits in
-    let start = c.args.machine.now in
+    let start = c.args.player.now in
     let called = c.play_schedule-replayed in
     let replayed = called.result in
     let source = g.Q.Source.left c.args.schedule.now in
@@ -48,6 +48,7 @@ returns g c =
       decided = λ e. IfSome_then source called.ensures.stops (λ steps stops.
           decided-replay play limits start steps left mid now replayed answer stops w
           (of-schedule-decided answer e));
+      gave = λ is. called.ensures.gave (concluded-decided mid now replayed answer w is).0;
       written = λ is. taken-then g.O.Sink.refused c.args.out.now called.new.out c.conclude.new.out
           (called.ensures.went (concluded-decided mid now replayed answer w is).0)
           (c.conclude.ensures.written is);

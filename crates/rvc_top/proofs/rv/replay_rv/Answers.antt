@@ -1,5 +1,5 @@
 -- The machine replays the schedule, or there is no memory for it.
-use Rattle.std.proofs.Common.{◌≡◌, refl, subst}
+use Rattle.std.proofs.Common.{refl}
 use Rattle.schedule_replay.specs.Limits.{schedule_limits}
 use Rattle.rvc_top.specs.Commands.{rv_replay}
 use Rattle.rvc_top.proofs.Runs.{replay-unbegun}

@@ -1,31 +1,30 @@
 -- The run ends as its file is refused, or as the replay on its protocol does.
-use Rattle.std.proofs.Common.{◌≡◌, Some, Ok, Err, inl, subst, sym, ◌∙◌, refl}
+use Rattle.std.proofs.Common.{◌≡◌, Some, Ok, inl, subst, sym, refl}
 use Rattle.std.proofs.lemmas.Option.{IfSome_then}
 use Rattle.schedule_replay.specs.Limits.{schedule_limits}
 use Rattle.rvc_top.specs.Commands.{describe, rv_replay}
-use Rattle.rvc_top.specs.Forms.{RefusesUnchecked, checked_form}
-use Rattle.rvc_top.specs.FileRead.{IsChecked, CheckedToEnd}
-use Rattle.rvc_top.specs.Reply.{IsReplyEnd}
-use Rattle.rvc_top.specs.Runs.{seen}
+use Rattle.rvc_top.specs.Forms.{checked_form}
+use Rattle.rvc_top.specs.FileRead.{IsFile, ReadToEnd}
+use Rattle.rvc_top.specs.Reply.{FileDecides}
+use Rattle.rvc_top.specs.Runs.{seen_source}
 use Rattle.rvc_top.specs.declared.command.Command.TheVariants.{Rv}
 use Rattle.rvc_top.specs.declared.status.Status.{Status}
 use Rattle.rvc_top.specs.declared.status.Status.TheVariants.{Done, FileRefused}
 use Rattle.rvc_top.proofs.Forms.{checked_form-is}
-use Rattle.rvc_top.proofs.Endings.{told}
 use Rattle.rvc_top.proofs.Runs.{run-replied, run-replayed}
 use Rattle.rvc_top.proofs.rv.rv.Goals as goal
 
-pub returns-in-Ok-WellFormed : goal.returns-in-Ok-WellFormed
-returns-in-Ok-WellFormed g c =
-    let found = c.in-Ok-WellFormed in
+pub returns-in-Ok-Holds : goal.returns-in-Ok-Holds
+returns-in-Ok-Holds g c =
+    let found = c.in-Ok-Holds in
     run-replayed _ checked_form checked_form-is schedule_limits (rv_replay c.args.n)
-    (seen g.P.Source.left g.P.Source.faults g.P.Source.ended c.args.protocol.now
-    c.check_file.new.protocol) _ _ c.replay_rv.result found.checked
+    (seen_source g.P.Source.left g.P.Source.faults g.P.Source.ended g.P.Source.refused
+    c.args.protocol.now c.from_file.new.protocol) _ _ c.replay_rv.result found.checked
     (IfSome_then (g.P.Source.left c.args.protocol.now) found.ensures.bytes
-    (λ file checks. subst (IsChecked file) found.field-0-is checks))
-    found.ensures.count c.replay_rv.ensures
-    (subst (CheckedToEnd (g.P.Source.left c.check_file.new.protocol)
-    (g.P.Source.ended c.check_file.new.protocol)) found.field-0-is found.ensures.end)
+    (λ file checks. subst (IsFile checked_form file) found.field-0-is checks))
+    found.ensures.count found.ensures.gave c.replay_rv.ensures
+    (subst (ReadToEnd (g.P.Source.left c.from_file.new.protocol)
+    (g.P.Source.ended c.from_file.new.protocol)) found.field-0-is found.ensures.end)
     found.ensures.taken
 
 refused-undone : (status : Status) → status ≡ FileRefused → status ≡ Done → ⊥
@@ -36,16 +35,16 @@ returns-in-Ok-Refused g c =
     let found = c.in-Ok-Refused in
     let refusal = c.refusal in
     run-replied (describe (Some (Rv c.args.n))).task checked_form-is tt
-    (seen g.P.Source.left g.P.Source.faults g.P.Source.ended c.args.protocol.now
-    c.check_file.new.protocol)
+    (seen_source g.P.Source.left g.P.Source.faults g.P.Source.ended g.P.Source.refused
+    c.args.protocol.now c.from_file.new.protocol)
     _ _ c.finish.result record { left = refl; count = refl; same = refl } (Ok refusal.result)
     (IfSome_then (g.P.Source.left c.args.protocol.now) found.ensures.bytes (λ file checks schedule.
     inl (
       refusal.ensures.status,
       rw refusal.ensures.text
-          (subst (IsChecked file) found.field-0-is checks),
+          (subst (IsFile checked_form file) found.field-0-is checks),
     )))
-    (subst IsReplyEnd (sym refusal.ensures.status) tt) found.ensures.count c.finish.ensures.bytes
+    (subst FileDecides (sym refusal.ensures.status) tt) found.ensures.count c.finish.ensures.bytes
     (λ e. absurd (refused-undone refusal.result.status refusal.ensures.status e))
     (λ e reads. refused-undone refusal.result.status refusal.ensures.status e)
-    found.ensures.taken c.finish.ensures.counts c.finish.ensures.written
+    found.ensures.taken found.ensures.gave c.finish.ensures.counts c.finish.ensures.written

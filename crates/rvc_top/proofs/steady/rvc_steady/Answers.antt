@@ -1,5 +1,5 @@
 -- Sources and sinks that never fail end no run.
-use Rattle.std.proofs.Common.{◌≡◌, Some, map, string_bytes, ap, arith}
+use Rattle.std.proofs.Common.{Some, map, string_bytes, ap, arith}
 use Rattle.rvc_top.specs.Commands.{asked}
 use Rattle.rvc_top.specs.Verdict.{Verdict}
 use Rattle.rvc_top.specs.Endings.{kind_of, write_failed, FaultLeaves}

@@ -7,11 +7,10 @@ use Rattle.rvc_top.specs.Examples.{example_text}
 use Rattle.rvc_top.specs.Runs.{Seen, IsRun}
 use Rattle.rvc_top.specs.declared.command.Command.{Command}
 use Rattle.rvc_top.specs.declared.command.Command.TheVariants as named
-use Rattle.rvc_top.specs.declared.file_command.FileCommand.TheVariants.{Print, OnChecked}
-use Rattle.rvc_top.specs.declared.file_command.CheckedCommand.TheVariants as checked
 use Rattle.rvc_top.specs.declared.status.Status.{Status}
 use Rattle.rvc_top.specs.declared.status.Status.TheVariants.{Usage}
-use Rattle.rvc_top.proofs.Runs.{run-written, run-asked}
+use Rattle.rvc_top.proofs.Forms.{spelled_form-is, checked_form-is}
+use Rattle.rvc_top.proofs.Runs.{run-written, run-beside}
 use Rattle.rvc_top.proofs.top.run.Goals as goal
 
 -- what is known of the run of a command is known of what was found
@@ -37,50 +36,45 @@ returns-in-None g c =
     { left = refl; count = refl; same = refl } record { left = refl; count = refl; same = refl }
     tt (λ e. absurd (cc)) f.ensures.bytes f.ensures.counts f.ensures.written)
 
+pub tell-requires : goal.tell-requires
+tell-requires g c = spelled_form-is
+
+pub tell-requires-in-Some-Check : goal.tell-requires-in-Some-Check
+tell-requires-in-Some-Check g c = checked_form-is
+
+pub tell-requires-in-Some-TableText : goal.tell-requires-in-Some-TableText
+tell-requires-in-Some-TableText g c = checked_form-is
+
+pub tell-requires-in-Some-TableJson : goal.tell-requires-in-Some-TableJson
+tell-requires-in-Some-TableJson g c = checked_form-is
+
 pub returns-in-Some-Print : goal.returns-in-Some-Print
 returns-in-Some-Print g c =
-    let r = c.reply in
-    let f = c.finish in
-    meant c.args.command c.in-Some-Print.field-0 named.Print c.in-Some-Print.is
-    (rw c.in-Some-Print.is at c.in-Some-Print.field-0-is) _ _ _ f.result
-    (run-asked Print _ _ _ f.result record { left = refl; count = refl; same = refl } r.result
-    r.ensures.says r.ensures.status r.ensures.end r.ensures.taken r.ensures.count
-    f.ensures.bytes f.ensures.counts f.ensures.written)
+    meant c.args.command c.in-Some-Print.field-0 named.Print
+    c.in-Some-Print.is (rw c.in-Some-Print.is at c.in-Some-Print.field-0-is) _ _ _
+    c.tell.result (run-beside _ _ _ _ _ c.tell.result _
+    record { left = refl; count = refl; same = refl } c.tell.ensures)
 
 pub returns-in-Some-Check : goal.returns-in-Some-Check
 returns-in-Some-Check g c =
-    let r = c.reply-in-Some-Check in
-    let f = c.finish-in-Some-Check in
-    meant c.args.command c.in-Some-Check.field-0 named.Check c.in-Some-Check.is
-    (rw c.in-Some-Check.is at c.in-Some-Check.field-0-is) _ _ _ f.result
-    (run-asked (OnChecked checked.Check) _ _ _ f.result record
-    { left = refl; count = refl; same = refl } r.result r.ensures.says r.ensures.status
-    r.ensures.end r.ensures.taken r.ensures.count
-    f.ensures.bytes f.ensures.counts f.ensures.written)
+    meant c.args.command c.in-Some-Check.field-0 named.Check
+    c.in-Some-Check.is (rw c.in-Some-Check.is at c.in-Some-Check.field-0-is) _ _ _
+    c.tell-in-Some-Check.result (run-beside _ _ _ _ _ c.tell-in-Some-Check.result _
+    record { left = refl; count = refl; same = refl } c.tell-in-Some-Check.ensures)
 
 pub returns-in-Some-TableText : goal.returns-in-Some-TableText
 returns-in-Some-TableText g c =
-    let r = c.reply-in-Some-TableText in
-    let f = c.finish-in-Some-TableText in
     meant c.args.command c.in-Some-TableText.field-0 (named.TableText c.in-Some-TableText.mode)
     c.in-Some-TableText.is (rw c.in-Some-TableText.is at c.in-Some-TableText.field-0-is) _ _ _
-    f.result
-    (run-asked (OnChecked (checked.TableText c.in-Some-TableText.mode)) _ _ _ f.result record
-    { left = refl; count = refl; same = refl } r.result r.ensures.says r.ensures.status
-    r.ensures.end r.ensures.taken r.ensures.count
-    f.ensures.bytes f.ensures.counts f.ensures.written)
+    c.tell-in-Some-TableText.result (run-beside _ _ _ _ _ c.tell-in-Some-TableText.result _
+    record { left = refl; count = refl; same = refl } c.tell-in-Some-TableText.ensures)
 
 pub returns-in-Some-TableJson : goal.returns-in-Some-TableJson
 returns-in-Some-TableJson g c =
-    let r = c.reply-in-Some-TableJson in
-    let f = c.finish-in-Some-TableJson in
     meant c.args.command c.in-Some-TableJson.field-0 (named.TableJson c.in-Some-TableJson.mode)
     c.in-Some-TableJson.is (rw c.in-Some-TableJson.is at c.in-Some-TableJson.field-0-is) _ _ _
-    f.result
-    (run-asked (OnChecked (checked.TableJson c.in-Some-TableJson.mode)) _ _ _ f.result record
-    { left = refl; count = refl; same = refl } r.result r.ensures.says r.ensures.status
-    r.ensures.end r.ensures.taken r.ensures.count
-    f.ensures.bytes f.ensures.counts f.ensures.written)
+    c.tell-in-Some-TableJson.result (run-beside _ _ _ _ _ c.tell-in-Some-TableJson.result _
+    record { left = refl; count = refl; same = refl } c.tell-in-Some-TableJson.ensures)
 
 pub returns-in-Some-Rv : goal.returns-in-Some-Rv
 returns-in-Some-Rv g c =

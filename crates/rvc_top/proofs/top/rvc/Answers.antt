@@ -1,8 +1,9 @@
 -- What is known of the run of what the words mean, clause by clause.
-use Rattle.std.proofs.Common.{◌≡◌, None, map, string_bytes, subst, refl, ◌∙◌, sym}
+use Rattle.std.proofs.Common.{None, map, string_bytes, ◌∙◌}
 use Rattle.rvc_top.specs.Words.{meaning}
 use Rattle.rvc_top.specs.Commands.{asked}
-use Rattle.rvc_top.proofs.Runs.{run-of, run-complete, refused-words, no-form}
+use Rattle.rvc_top.proofs.EveryRun.{owed}
+use Rattle.rvc_top.proofs.Runs.{run-of, run-complete, no-form}
 use Rattle.rvc_top.proofs.top.rvc.Goals as goal
 
 pub returns-clause-bytes : goal.returns-clause-bytes
@@ -23,7 +24,7 @@ returns-clause-complete g c no_file no_schedule no_write =
 
 pub returns-clause-usage : goal.returns-clause-usage
 returns-clause-usage g c e =
-    refused-words (meaning (map string_bytes c.args.words.now))
+    (owed (meaning (map string_bytes c.args.words.now))).meant
     ((run-of c.words_mean.result (meaning (map string_bytes c.args.words.now))
     c.words_mean.ensures.means _ _ _ c.run.result c.run.ensures).usage e)
 
@@ -106,3 +107,8 @@ pub returns-clause-written : goal.returns-clause-written
 returns-clause-written g c =
     (run-of c.words_mean.result (meaning (map string_bytes c.args.words.now))
     c.words_mean.ensures.means _ _ _ c.run.result c.run.ensures).written
+
+pub returns-clause-gave : goal.returns-clause-gave
+returns-clause-gave g c =
+    (run-of c.words_mean.result (meaning (map string_bytes c.args.words.now))
+    c.words_mean.ensures.means _ _ _ c.run.result c.run.ensures).gave

@@ -1,0 +1,58 @@
+//! How the reads of a source went.
+
+ghost use Rattle.std.specs.Prelude.{◌≡◌, List, ℕ, None};
+ghost use Rattle.std.specs.Io.{ReadsAtMost};
+ghost use Rattle.rv_base.specs.Outside.{RisesWhere, ReadMoves, ReadEnds, ReadGoes, read_failed};
+
+use crate::errors::ErrorCount;
+use rv_base::ReadAnswer;
+use std::io;
+
+/// How many reads of a source failed, whether the last one came to its end, and whether the last
+/// one was refused: it failed, or there was no memory for it.
+#[derive(Debug, Drop)]
+pub struct Reading {
+    pub errors: ErrorCount,
+    pub ended: bool,
+    pub refused: bool,
+}
+
+impl Reading {
+    /// No read was made yet.
+    pub fn new() -> Reading {
+        Reading {
+            errors: ErrorCount { count: 0 },
+            ended: false,
+            refused: false,
+        }
+    }
+
+    /// What a read answers of which the system says this, and notes how it went. No bytes are its
+    /// end, and an error is a fault, but want of memory.
+    pub fn answer(&mut self, outcome: io::Result<usize>) -> ReadAnswer
+        ensures bytes { (into : List ℕ) → ReadsAtMost outcome into
+            → ReadMoves None None into result }
+        ensures cause { RisesWhere (read_failed result) self.old.errors.count
+            self.new.errors.count }
+        ensures ends { ReadEnds self.new.ended result }
+        ensures went { ReadGoes self.new.refused result }
+    {
+        self.ended = false;
+        self.refused = false;
+        match outcome {
+            Ok(0) => {
+                self.ended = true;
+                ReadAnswer::End
+            }
+            Ok(count) => ReadAnswer::Got(count),
+            Err(error) => {
+                self.refused = true;
+                if self.errors.counts(&error) {
+                    ReadAnswer::Failed
+                } else {
+                    ReadAnswer::NoMemory
+                }
+            }
+        }
+    }
+}

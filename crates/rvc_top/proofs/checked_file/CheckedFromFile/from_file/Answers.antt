@@ -1,0 +1,13 @@
+-- The file that is read has the protocol that is checked, or is refused.
+use Rattle.std.proofs.Common.{subst}
+use Rattle.std.proofs.lemmas.Option.{IfSome_then}
+use Rattle.rvc_top.specs.FileRead.{IsRead}
+use Rattle.rvc_top.proofs.Checked.{file-checked}
+use Rattle.rvc_top.proofs.checked_file.CheckedFromFile.from_file.Goals as goal
+
+pub returns-in_ok-check_spelled-in-Holds-clause-bytes :
+    goal.returns-in_ok-check_spelled-in-Holds-clause-bytes
+returns-in_ok-check_spelled-in-Holds-clause-bytes g c =
+    IfSome_then (g.P.Source.left c.args.protocol.now) c.in_ok-spelled.ensures.bytes (λ file reads.
+    file-checked file c.in-Holds.spelled c.in_ok-check_spelled-in-Holds.field-0
+    (subst (IsRead file) c.in-Holds.is reads) c.in_ok-check_spelled-in-Holds.ensures)
