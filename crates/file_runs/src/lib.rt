@@ -4,6 +4,7 @@
 //! - `syntax`: files that spell no protocol, and words of no form.
 //! - `check`: protocols with one fault.
 //! - `limits`: protocols at each limit, and one past it.
+//! - `claims`: files with claims.
 //! - `calls`: reads and writes that fail.
 #![tactic(auto)]
 
@@ -11,6 +12,8 @@
 mod calls;
 #[cfg(test)]
 mod check;
+#[cfg(test)]
+mod claims;
 #[cfg(test)]
 mod limits;
 #[cfg(test)]

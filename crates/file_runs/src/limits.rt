@@ -122,6 +122,35 @@ fn a_guard_has_at_most_8_assignments(rt: HostRuntime) -> Result<(), Wrong> {
     tells(rt.alloc(), &ASSIGNMENTS, 8, b"error file line 6 code 10\n")
 }
 
+const CLAIMS: Repeated = Repeated {
+    before: b"protocol p version 2;\nhome {\nstart s0;\nstate s0 { }\n}\n\
+        remote { start r; state r { } }\n",
+    front: b"claim atmost ",
+    back: b" in r;\n",
+    behind: b"",
+};
+
+#[test]
+fn there_are_at_most_16_claims(rt: HostRuntime) -> Result<(), Wrong> {
+    tells(rt.alloc(), &CLAIMS, 16, b"")?;
+    tells(rt.alloc(), &CLAIMS, 17, b"error file line 23 code 10\n")
+}
+
+// The same state again and again, with the numbers in comments.
+const NAMES: Repeated = Repeated {
+    before: b"protocol p version 2;\nhome {\nstart s0;\nstate s0 { }\n}\n\
+        remote { start r; state r { } }\nclaim atmost 1 in\n",
+    front: b"r //",
+    back: b"\n",
+    behind: b";\n",
+};
+
+#[test]
+fn a_claim_names_at_most_64_states(rt: HostRuntime) -> Result<(), Wrong> {
+    tells(rt.alloc(), &NAMES, 64, b"")?;
+    tells(rt.alloc(), &NAMES, 65, b"error file line 7 code 10\n")
+}
+
 const ONE_STATE: &[u8] = b"state s0 { }\n";
 
 // Messages, variables and states, and what is told of them.

@@ -20,6 +20,8 @@ impl Source for Endless {
 
     ghost ended = { λ _. false };
 
+    ghost refused = { λ _. false };
+
     fn read(&mut self, into: &mut [u8]) -> ReadAnswer {
         into.fill(self.0);
         ReadAnswer::Got(into.len())

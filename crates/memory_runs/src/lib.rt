@@ -23,4 +23,7 @@ pub use cases::{Case, Reads, Text, Wrong, begins, closes, over_file, over_nothin
 pub use endless::{ends_over_endless_file, ends_over_endless_schedule};
 pub use expected::{each_file_ends, ends, ends_by, left_after};
 pub use faults::{each_file_read_fails, each_schedule_read_fails, each_write_fails};
-pub use protocols::{ARITH, HOLD, HOLD_LINE, INVALIDATE, MIGRATORY, SMALL, STILL, STILL_LINE};
+pub use protocols::{
+    ARITH, HOLD, HOLD_LINE, INVALIDATE, MIGRATORY, MIGRATORY_2, SMALL, STILL, STILL_LINE,
+    migratory_body,
+};

@@ -121,6 +121,17 @@ remote {
 }
 ";
 
+/// The header of `migratory` as a file of version 2. `migratory_body` and claims follow it.
+pub const MIGRATORY_2: &[u8] = b"protocol migratory version 2;\n";
+
+/// `MIGRATORY` behind its header, of 20 bytes.
+pub fn migratory_body() -> &'static [u8] {
+    match MIGRATORY.get(20..) {
+        Some(body) => body,
+        None => MIGRATORY,
+    }
+}
+
 /// The text that `example invalidate` must write.
 pub const INVALIDATE: &[u8] = b"\
 protocol invalidate;

@@ -5,11 +5,14 @@
 //! - `json`: the same rows as JSON.
 //! - `examples`: protocols to start from.
 //! - `refused`: files that have no table.
+//! - `claims`: files with claims.
 //! - `calls`: reads and writes that fail.
 #![tactic(auto)]
 
 #[cfg(test)]
 mod calls;
+#[cfg(test)]
+mod claims;
 #[cfg(test)]
 mod examples;
 #[cfg(test)]

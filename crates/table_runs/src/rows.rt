@@ -46,7 +46,7 @@ remote
   D/0! send 0: reply id, D/0, I
 ";
 
-const SMALL_ROWS: &[u8] = b"\
+pub const SMALL_ROWS: &[u8] = b"\
 table small plain
 message a up
 message b down
