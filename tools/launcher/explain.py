@@ -1,0 +1,492 @@
+"""What a status from 1 to 7 of the program `rvc` means, in words for a person.
+
+`explanation` takes the words of the command line, the status and an `Again`, by which the answer is
+had once more where everything that was read can be read again. Where it can't, or where the file
+or the schedule has changed meanwhile, it says less.
+"""
+import errno
+import os
+import re
+import stat
+import subprocess
+
+from forms import READ_STANDARD_INPUT, path_in, shown, word_fault
+from protocol import END, NAME, NUMBER, RESERVED, Misfit, read_protocol
+from faults import first_fault, listed
+
+TOP = os.path.dirname(os.path.dirname(os.path.dirname(os.path.realpath(__file__))))
+SECONDS = 20
+FILE_LIMIT = 65536
+LINE_LIMIT = 256
+TAIL = 1 << 20
+
+# Of each code: its name, what it means, and how to mend it.
+CODES = {
+    1: ("no protocol", "Read from the front, this line has the first piece with which the file "
+        "can no longer become a protocol.",
+        "A missing `;` or `}` is told at the next piece: look at what stands before it, too."),
+    10: ("too many", "There is more here than the limit.",
+         "Join what belongs together, or let a local step go to a second state with the rest."),
+    11: ("name too long", "A declared name has at most 32 bytes.", "Shorten the name."),
+    12: ("duplicate", "The name is declared already.", "Rename one of the two."),
+    13: ("unknown", "A name isn't declared.", "Declare it, or look for a slip of the pen."),
+    14: ("wrong type", "Types don't agree.", ""),
+    15: ("wrong direction", "A message goes the other way.",
+         "Turn the guard round, or the message's direction; where both sides need to send it, "
+         "declare two messages."),
+    16: ("not a star", "A remote meets `home` alone, and the home meets remotes.", ""),
+    17: ("active mixed", "An output of a remote is the only guard of its state.",
+         "Put the output into a state of its own, and go there by a `tau`."),
+    18: ("active condition", "An output of a remote has no condition.",
+         "Put the condition on the local step that leads to the state with the output."),
+    19: ("bad number", "A number is out of range.", ""),
+}
+
+EVENTS = """  tau home G     a local step of the home, by guard G of its state
+  tau J G        a local step of remote J, by guard G of its state
+  up J H R       remote J sends by its guard R, and the home takes it by its guard H
+  down J H R     the home sends by its guard H, and remote J takes it by its guard R
+A line may also be blank; `//` begins a comment. Guards and remotes are counted from 0."""
+
+
+class Again:
+    """Has the program answer once more, where what it read can be read once more."""
+
+    def __init__(self, program, words, start):
+        """`start` is where standard input stood before the run, or None where it can't be read
+        again."""
+        self.program, self.words, self.start = program, words, start
+
+    def run(self, words, schedule=None):
+        """The status and the end of the text of a run with these words; (None, b"") where it
+        takes too long or can't be started."""
+        given = subprocess.DEVNULL if schedule is None else schedule
+        try:
+            run = subprocess.run([self.program, *words], stdin=given, stdout=subprocess.PIPE,
+                                 stderr=subprocess.DEVNULL, timeout=SECONDS)
+        except (OSError, subprocess.SubprocessError):
+            return None, b""
+        return run.returncode, run.stdout[-TAIL:]
+
+    def file(self, path):
+        """The text of the file with its bytes as characters, up to one past the limit; None where
+        it can't be read again."""
+        try:
+            if not stat.S_ISREG(os.stat(path).st_mode):
+                return None
+            with open(path, "rb") as file:
+                return file.read(FILE_LIMIT + 1).decode("latin-1")
+        except (OSError, ValueError):
+            return None
+
+    def verdict(self):
+        """The answer to the file: the status and the text of `check`. The file is opened here, as
+        its path may speak of a stream of this process, as /dev/stdin does."""
+        try:
+            with open(self.words[1], "rb") as file:
+                return self.run(["check", "/dev/stdin"], file)
+        except OSError:
+            return None, b""
+
+    def schedule(self):
+        """Standard input from where it stood, as a descriptor of its own, or None."""
+        if self.start is None:
+            return None
+        try:
+            again = os.open("/proc/self/fd/0", os.O_RDONLY)
+            if self.start:
+                os.lseek(again, self.start, os.SEEK_SET)
+        except OSError:
+            return None
+        return again
+
+    def replay(self):
+        """The answer to the schedule: the status and the end of the text."""
+        again = self.schedule()
+        if again is None:
+            return None, b""
+        try:
+            return self.run(self.words, again)
+        finally:
+            os.close(again)
+
+
+class Answered:
+    """Stands for an Again where the answer and copies of what was read are at hand."""
+
+    def __init__(self, words, answer, file, schedule):
+        """The words, the status and the text, and where the copies are (or None)."""
+        self.words, self.answer, self.copy, self.copied = words, answer, file, schedule
+
+    def file(self, path):
+        if self.copy is None:
+            return None
+        with open(self.copy, "rb") as file:
+            return file.read().decode("latin-1")
+
+    def verdict(self):
+        return self.answer
+
+    def replay(self):
+        return self.answer
+
+    def schedule(self):
+        return os.open(self.copied, os.O_RDONLY) if self.copied else None
+
+    def run(self, words, schedule=None):
+        return None, b""
+
+
+def explanation(words, status, again):
+    """Lines that tell a person what this status means, for these words."""
+    if status == 1:
+        return usage(words)
+    path = path_in(words)
+    if status == 5:
+        return unwritten()
+    if status == 6:
+        return ["Memory ran out (status 6): what was written is only the front of the answer."]
+    if path is None:
+        return []
+    reads = words[0] in READ_STANDARD_INPUT
+    if status == 2:
+        return refused_file(path, again)
+    if status == 3 and reads:
+        return refused_schedule(again)
+    if status == 4:
+        return unreadable(path, reads)
+    if status == 7 and reads:
+        return broken_claim(path, again)
+    return []
+
+
+def page(name, section=None):
+    """Where a page of the documents, or a section of it, stands, as a path from here."""
+    path = os.path.join(TOP, "docs", name)
+    near = os.path.relpath(path)
+    near = path if near.startswith("..") else near
+    return "%s, section \"%s\"" % (near, section) if section else near
+
+
+def usage(words):
+    """Status 1."""
+    fault = word_fault(words)
+    if fault is None:
+        return ["The words have none of the forms that `./rvc --help` lists."]
+    return ["The words have no form. " + fault, "`./rvc --help` has each form."]
+
+
+def refused_file(path, again):
+    """Status 2."""
+    text = again.file(path)
+    status, answer = again.verdict() if text is not None else (None, b"")
+    if status != 2:
+        return ["%s is refused (status 2). Standard output has the line and the code; the file "
+                "can't be read a second time, so no more is told here." % shown(path),
+                "More: %s, a section for each code" % page("CODES.md")]
+    if answer == b"error file too long\n":
+        return ["%s: the file is too long: it may have at most 65,536 bytes." % shown(path),
+                "More: " + page("FORMATS.md", "Limits")]
+    found = re.fullmatch(rb"error file line (\d+) code (\d+)\n", answer)
+    if not found or int(found.group(2)) not in CODES:
+        return ["%s is refused (status 2); standard output says why." % shown(path)]
+    return at_line(path, text, int(found.group(1)), int(found.group(2)))
+
+
+def at_line(path, text, line, code):
+    """A fault with its line, what it means, and where there is more of it."""
+    name, meaning, mend = CODES[code]
+    place, sentences, before = sure(text, line, code)
+    told = ["%s:%d: code %d, %s" % (shown(path), line, code, name)]
+    if before not in (None, line):
+        told += source_line(text, before, None)
+    told += source_line(text, line, place)
+    told += sentences or [meaning]
+    if mend:
+        told.append(mend)
+    return told + ["More: " + page("CODES.md", "Code %d: %s" % (code, name))]
+
+
+def sure(text, line, code):
+    """Where the fault begins, sentences on it, and the line of what stands before it, where that
+    belongs to it; (None, [], None) where this reader finds another fault."""
+    try:
+        file = read_protocol(text)
+    except Misfit as misfit:
+        if code != 1 or misfit.piece.line != line:
+            return None, [], None
+        before = misfit.before.line if misfit.before else None
+        return misfit.piece.begin, misfit_sentences(misfit), before
+    fault = first_fault(file)
+    if fault is None or (fault.line, fault.code) != (line, code):
+        return None, [], None
+    return fault.part.first.begin, fault.sentences, None
+
+
+def source_line(text, line, place):
+    """The line of the file, from the fault on where it is long. Nothing where the line is empty."""
+    rows = text.split("\n")
+    row = rows[line - 1] if line <= len(rows) else ""
+    if place is not None and len(row) > 100:
+        before = sum(len(other) + 1 for other in rows[: line - 1])
+        row = ".. " + row[place - before :]
+    row = seen(row.rstrip())
+    if not row.strip():
+        return []
+    return ["%6d | %s" % (line, row if len(row) <= 100 else row[:98] + "..")]
+
+
+def seen(row):
+    """A line whose bytes stand as characters, as it can stand on a terminal."""
+    row = row.encode("latin-1").decode("utf-8", "replace").expandtabs(4)
+    return "".join(letter if letter.isprintable() else "?" for letter in row)
+
+
+def misfit_sentences(misfit):
+    """Sentences on the first piece with which no protocol begins."""
+    piece, before = misfit.piece, misfit.before
+    wanted = [kind if kind in (NUMBER, NAME, END) else "`%s`" % kind for kind in misfit.wanted]
+    where = "At the front" if before is None else "After `%s`" % before.text
+    if before is not None and before.line != piece.line:
+        where += " on line %d" % before.line
+    if len(wanted) == 1:
+        can = "%s only %s may come." % (where, wanted[0])
+    else:
+        can = "%s may come %s or %s." % (where, ", ".join(wanted[:-1]), wanted[-1])
+    if piece.kind == END:
+        return ["The file ends here, and something is missing. " + can]
+    named = "`%s`" % piece.text if " " < piece.text <= "~" else "A byte %d" % ord(piece.text)
+    return ["%s can't stand there%s. %s" % (named, why(misfit), can)]
+
+
+def why(misfit):
+    """Why a piece fits nowhere or not here, as words to follow a sentence."""
+    piece = misfit.piece
+    text = piece.text
+    if piece.kind is None:
+        if text == "/":
+            return ": only `//` begins a comment"
+        if text.isdigit():
+            return ": a number is 0, or has up to five digits and no leading zero"
+        if text[0].isdigit():
+            return ": a name doesn't begin with a digit, and a number has decimal digits alone"
+        if ord(text) > 126 or ord(text) < 32:
+            return ": outside of comments a file is plain ASCII"
+        return ": no token begins with it"
+    if text in RESERVED and NAME in misfit.wanted:
+        return ": it is a reserved word, and no name"
+    if text == "claim" and misfit.version == 1:
+        return ": a file has claims only where its first line says `version 2`"
+    if text == "or" and "and" in misfit.wanted:
+        return ": there is no `or`; write the guard twice"
+    if text == "=" and "eq" in misfit.wanted:
+        return ": equality is `eq`"
+    if text == "when" and "goto" in misfit.wanted:
+        return ": the condition stands before the assignments"
+    return ""
+
+
+# Status 3.
+
+def refused_schedule(again):
+    """Status 3."""
+    status, answer = again.replay()
+    last = answer[:-1].split(b"\n")[-1] if status == 3 else b""
+    found = re.fullmatch(rb"error schedule line (\d+)", last)
+    more = ["More: " + page("FORMATS.md", "Schedules of events")]
+    if last == b"error schedule too long":
+        return ["The schedule is refused (status 3): it has more than 1,000,000 lines."] + more
+    if not found:
+        return ["A line of the schedule is refused (status 3); the last line on standard output "
+                "has its number. A line has at most 256 bytes, and is one of:", EVENTS] + more
+    number = int(found.group(1))
+    line = schedule_line(again.schedule(), number)
+    if line is None:
+        return ["Line %d of the schedule is refused (status 3). A line has at most 256 bytes, "
+                "and is one of:" % number, EVENTS] + more
+    told = ["Line %d of the schedule is refused (status 3):" % number]
+    told.append("%6d | %s" % (number, seen(line[:90].decode("latin-1")).rstrip()))
+    return told + [line_fault(line), EVENTS] + more
+
+
+def schedule_line(descriptor, number):
+    """A line of a schedule without its LF, up to one byte past the limit, or None."""
+    if descriptor is None:
+        return None
+    with open(descriptor, "rb") as file:
+        for _ in range(number - 1):
+            while True:
+                row = file.readline(1 << 16)
+                if not row:
+                    return None
+                if row.endswith(b"\n"):
+                    break
+        line = file.readline(LINE_LIMIT + 2)
+    return line[:-1] if line.endswith(b"\n") else line
+
+
+def line_fault(line):
+    """Why a line is no event, as a sentence; the forms of an event follow it."""
+    if len(line) > LINE_LIMIT:
+        return "It has more than 256 bytes, with its blanks and its comment. A line is one of:"
+    words = [word for word in re.split("[ \t\r]+", line.decode("latin-1").split("//")[0]) if word]
+    if words and words[0] not in ("tau", "up", "down"):
+        return "`%s` begins no event. A line is one of:" % seen(words[0])
+    count = {"tau": 2, "up": 3, "down": 3}.get(words[0] if words else "", 0)
+    if words and len(words) - 1 != count:
+        return "Behind `%s` stand %d words, and here are %d. A line is one of:" % (
+            words[0], count, len(words) - 1)
+    for place, word in enumerate(words[1:]):
+        if words[0] == "tau" and place == 0 and word == "home":
+            continue
+        if not re.fullmatch("0|[1-9][0-9]{0,4}", word):
+            return ("`%s` is no number here: it is 0, or has up to five digits and no leading "
+                    "zero. A line is one of:" % seen(word))
+    return "A line is one of:"
+
+
+# Status 4 and 5.
+
+def unreadable(path, reads):
+    """Status 4."""
+    reason = file_fault(path)
+    if reason:
+        named = "`%s`" % shown(path) if path else "The empty path"
+        return ["%s can't be read (status 4): %s." % (named, reason)]
+    if reads:
+        return ["Standard input can't be read (status 4)%s." % input_fault()]
+    return ["`%s` can't be read (status 4)." % shown(path)]
+
+
+def file_fault(path):
+    """Why a file can't be read, or None where that can't be told, as where it can be now."""
+    try:
+        mode = os.stat(path).st_mode
+        if stat.S_ISDIR(mode):
+            return "it is a folder"
+        if stat.S_ISREG(mode):
+            os.close(os.open(path, os.O_RDONLY))
+        return None
+    except OSError as error:
+        if error.errno == errno.ENOENT and os.path.islink(path):
+            return "it is a link to a file that isn't there"
+        return {
+            errno.ENOENT: "there is no such file",
+            errno.ENOTDIR: "a part of the path is no folder",
+            errno.EACCES: "permission is denied",
+            errno.ELOOP: "its links go round in a circle",
+            errno.ENAMETOOLONG: "the path is too long",
+        }.get(error.errno, os.strerror(error.errno))
+    except ValueError:
+        return None
+
+
+def input_fault():
+    """Why standard input can't be read, as words to follow a sentence."""
+    try:
+        if stat.S_ISDIR(os.fstat(0).st_mode):
+            return ": it is a folder"
+        if mode_of(0) == os.O_WRONLY:
+            return ": it is open for writing alone"
+    except OSError:
+        return ": it is closed"
+    return ""
+
+
+def mode_of(descriptor):
+    """How a descriptor was opened: to read, to write, or both."""
+    import fcntl
+
+    return fcntl.fcntl(descriptor, fcntl.F_GETFL) & os.O_ACCMODE
+
+
+def unwritten():
+    """Status 5."""
+    text = "The answer can't be written whole (status 5)"
+    try:
+        mode = os.fstat(1).st_mode
+        if mode_of(1) == os.O_RDONLY:
+            return [text + ": standard output is open for reading alone."]
+    except OSError:
+        return [text + ": standard output is closed."]
+    if stat.S_ISFIFO(mode) or stat.S_ISSOCK(mode):
+        return [text + ": whoever reads standard output takes no more."]
+    return [text + ": standard output takes no more, as where a disk is full."]
+
+
+# Status 7.
+
+def broken_claim(path, again):
+    """Status 7."""
+    more = ["More: " + page("LANGUAGE.md", "Claims")]
+    text = again.file(path)
+    claims, file = [], None
+    if text is not None:
+        try:
+            file = read_protocol(text)
+            claims = file.claims
+        except Misfit:
+            pass
+    status, answer = again.replay()
+    if status != 7 and text is not None:
+        # What breaks before any event does so over an empty schedule too.
+        status, answer = again.run(again.words)
+    found = None
+    if status == 7:
+        found = re.search(rb"(?:^|\n)claim (\d+) broken\nend\n([^\0]*)\Z", answer)
+    if found and int(found.group(1)) < len(claims):
+        number = int(found.group(1))
+        told = ["%s:%d: claim %d is broken (status 7)%s" % (
+            shown(path), claims[number].line, number, moment(answer[: found.start()]))]
+        told += source_line(text, claims[number].line, claims[number].first.begin)
+        told.append("It says that " + in_words(claims[number]) + ".")
+        return told + standing(claims[number], found.group(2)) + more
+    told = ["A claim of %s is broken (status 7)." % shown(path)]
+    if len(claims) == 1:
+        told.append("The file has one, on line %d: %s." % (claims[0].line, in_words(claims[0])))
+    elif claims:
+        told.append("Standard output has its number, I of `claim I broken`:")
+        told += ["  %2d  line %d: %s" % (number, claim.line, in_words(claim))
+                 for number, claim in enumerate(claims)]
+    else:
+        told.append("Standard output has its number, I of `claim I broken`; claims are counted "
+                    "from 0, in the order of the file.")
+    return told + more
+
+
+def moment(before):
+    """When a claim is broken: behind which event."""
+    events = re.findall(rb"(?:^|\n)(\d+) ((?:tau|up|down) [a-z0-9 ]+): moved(?=\n|\Z)", before)
+    if events:
+        number, event = (part.decode() for part in events[-1])
+        return " after event %s, `%s`" % (number, event)
+    return " at the start" if not before else ""
+
+
+def in_words(claim):
+    """What a claim says."""
+    names = [name.text for name in claim.states]
+    if claim.kind == "not":
+        if names[0] == names[1]:
+            return "no two remotes stand in %s" % names[0]
+        return "no two remotes stand the one in %s and the other in %s" % tuple(names)
+    names = list(dict.fromkeys(names))
+    where = names[0] if len(names) == 1 else ", ".join(names[:-1]) + " or " + names[-1]
+    most = int(claim.number.text)
+    if most == 0:
+        return "no remote stands in %s" % where
+    if most == 1:
+        return "at most one remote stands in %s" % where
+    return "at most %d remotes stand in %s" % (most, where)
+
+
+def standing(claim, end):
+    """Which remotes stand where the claim doesn't allow them to."""
+    states = {name.text for name in claim.states}
+    found = re.findall(r"^  remote (\d+) ([A-Za-z0-9_]+)(?= |$)", end.decode("latin-1"), re.M)
+    texts = ["remote %s in %s" % (remote, state) for remote, state in found if state in states]
+    if not texts:
+        return []
+    if len(texts) > 8:
+        texts = texts[:8] + ["%d more" % (len(texts) - 8)]
+    return ["Here stand %s." % listed(texts)]

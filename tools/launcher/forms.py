@@ -1,0 +1,114 @@
+"""The forms of the command line, as docs/FORMATS.md has them."""
+import difflib
+import re
+
+# The words of each command behind its name, and the commands that read standard input.
+FORMS = {
+    "print": ["PATH"],
+    "check": ["PATH"],
+    "rv": ["PATH", "N"],
+    "table": ["PATH", "MODE"],
+    "json": ["PATH", "MODE"],
+    "example": ["NAME"],
+}
+READ_STANDARD_INPUT = ["rv"]
+MODES = ["plain", "lean"]
+EXAMPLES = ["migratory", "invalidate"]
+PLACES = ["first", "second", "third", "fourth"]
+
+
+def is_text(word):
+    """Says whether a word is UTF-8."""
+    return not any("\udc80" <= letter <= "\udcff" for letter in word)
+
+
+def path_in(words):
+    """The PATH in words that have a form, or None."""
+    if word_fault(words) is None and FORMS[words[0]][0] == "PATH":
+        return words[1]
+    return None
+
+
+def word_fault(words):
+    """Which of the words has no form and what it may be, as a sentence; None where all have one."""
+    wrong = [place for place, word in enumerate(words) if not is_text(word)]
+    if wrong:
+        return "%s isn't UTF-8, so the words have no form." % nth_word(wrong[0])
+    if not words:
+        return "No command is given. " + commands()
+    command = words[0]
+    if command not in FORMS:
+        if command == "--help":
+            return "`--help` stands alone: ./rvc --help"
+        return "`%s` is no command%s. %s" % (shown(command), guess(command, FORMS), commands())
+    form = FORMS[command]
+    written = "%s %s" % (command, " ".join(form))
+    given = len(words) - 1
+    if given < len(form):
+        return "Behind `%s` the %s is missing (%s). %s" % (
+            " ".join(map(shown, words)),
+            form[given],
+            written,
+            meaning(form[given]),
+        )
+    if given > len(form):
+        extra = shown(words[len(form) + 1])
+        advice = ""
+        if form[0] == "PATH":
+            advice = " A path with a space in it needs quotes."
+        return "Behind %s the word `%s` is one too many.%s" % (written, extra, advice)
+    for name, word in zip(form, words[1:]):
+        if not MEANT[name](word):
+            return "In %s, `%s` is no %s: %s%s" % (
+                written, shown(word), name, meaning(name), near(name, word))
+    return None
+
+
+MEANT = {
+    "PATH": lambda word: True,
+    "N": lambda word: re.fullmatch("[1-9][0-9]?", word) is not None and int(word) <= 64,
+    "MODE": lambda word: word in MODES,
+    "NAME": lambda word: word in EXAMPLES,
+}
+
+
+def meaning(name):
+    """What a word of a form may be."""
+    return {
+        "PATH": "PATH is the path of a protocol file.",
+        "N": "N is from 1 to 64, in decimal without leading zeros: the number of remotes.",
+        "MODE": "MODE is plain or lean.",
+        "NAME": "NAME is migratory or invalidate.",
+    }[name]
+
+
+def near(name, word):
+    """The word that may have been meant, as a sentence to follow another."""
+    known = {"MODE": MODES, "NAME": EXAMPLES}.get(name, [])
+    found = difflib.get_close_matches(word.lower(), known, 1)
+    return " Is `%s` meant?" % found[0] if found else ""
+
+
+def guess(command, known):
+    """The command that may have been meant, in parentheses."""
+    found = difflib.get_close_matches(command.lower(), list(known) + ["help"], 1)
+    if found and found[0] == "help" or command == "-h":
+        return " (is `--help` meant?)"
+    return " (is `%s` meant?)" % found[0] if found else ""
+
+
+def commands():
+    """The commands, as a sentence."""
+    names = list(FORMS)
+    return "The commands are %s and %s." % (", ".join(names[:-1]), names[-1])
+
+
+def nth_word(place):
+    """A word by its place, counted from 0, at the front of a sentence."""
+    return "The %s word" % PLACES[place] if place < len(PLACES) else "Word %d" % (place + 1)
+
+
+def shown(word):
+    """A word as it can stand on a terminal."""
+    kept = "".join(letter if letter.isprintable() else "?" for letter in word)
+    return kept if len(kept) <= 60 else kept[:60] + ".."
