@@ -6,7 +6,7 @@ use Rattle.std.specs.List.{join_with_byte}
 use Rattle.std.proofs.lemmas.Bool.{cond-true, cond-false}
 use Rattle.rv_base.specs.Appended.{Appends}
 use Rattle.proto_model.specs.Tokens.{Text}
-use Rattle.proto_model.specs.NodeSets.{has_node, members_below}
+use Rattle.proto_model.specs.NumberSets.{has_number, members_below}
 use Rattle.proto_model.specs.Texts.{member_text, var_text, vars_text}
 use Rattle.proto_model.specs.Continued.{Continues}
 use Rattle.proto_model.specs.declared.numbered.Value.{Value}
@@ -61,29 +61,29 @@ unfolding members_below
 members_below-none set = refl
 
 members_below-more : (set n : ℕ)
-    → members_below set (n + 1) ≡ members_below set n ++ cond (has_node set n) (n ∷ []) []
+    → members_below set (n + 1) ≡ members_below set n ++ cond (has_number set n) (n ∷ []) []
 unfolding members_below
 members_below-more set n = rw add-one refl
 
-members_below-with : (set n : ℕ) → has_node set n ≡ true
+members_below-with : (set n : ℕ) → has_number set n ≡ true
     → members_below set (n + 1) ≡ members_below set n ++ n ∷ []
 members_below-with set n has =
     members_below-more set n
-    ∙ ap (λ (ns : List ℕ). members_below set n ++ ns) (cond-true (has_node set n) (n ∷ []) [] has)
+    ∙ ap (λ (ns : List ℕ). members_below set n ++ ns) (cond-true (has_number set n) (n ∷ []) [] has)
 
-pub members_below-without : (set n : ℕ) → has_node set n ≡ false
+pub members_below-without : (set n : ℕ) → has_number set n ≡ false
     → members_below set (n + 1) ≡ members_below set n
 members_below-without set n has =
     members_below-more set n
-    ∙ ap (λ (ns : List ℕ). members_below set n ++ ns) (cond-false (has_node set n) (n ∷ []) [] has)
+    ∙ ap (λ (ns : List ℕ). members_below set n ++ ns) (cond-false (has_number set n) (n ∷ []) [] has)
     ∙ append-nil (members_below set n)
 
-pub joined-with : (set n : ℕ) → has_node set n ≡ true
+pub joined-with : (set n : ℕ) → has_number set n ≡ true
     → joined (members_below set (n + 1)) ≡ joined (members_below set n) ++ member_text (is_nil (members_below set n)) n
 joined-with set n has =
     ap joined (members_below-with set n has) ∙ joined-push (members_below set n) n
 
-pub is_nil-with : (set n : ℕ) → has_node set n ≡ true → is_nil (members_below set (n + 1)) ≡ false
+pub is_nil-with : (set n : ℕ) → has_number set n ≡ true → is_nil (members_below set (n + 1)) ≡ false
 is_nil-with set n has =
     ap is_nil (members_below-with set n has) ∙ is_nil-push (members_below set n) n
 

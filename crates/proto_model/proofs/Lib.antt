@@ -1,8 +1,8 @@
 pub mod LaidMarks
 pub mod LaidOutSpells
 pub mod Writing
-pub mod NodeBits
-pub mod NodeSets
+pub mod NumberBits
+pub mod NumberSets
 pub mod Bare
 pub mod VarsPlaces
 pub mod TypedValues
@@ -10,3 +10,5 @@ pub mod TypedRules
 pub mod Steps
 pub mod Continuing
 pub mod KeptConfig
+pub mod ProperFacts
+pub mod PartnerRemembered

@@ -1,5 +1,4 @@
--- Texts that are appended one after the other. Only private contracts of the texts and
--- of the layout cite this.
+-- Texts that are appended one after the other.
 use Rattle.std.specs.Prelude.{◌++◌, Result}
 use Rattle.rv_base.specs.Appended.{Appends}
 use Rattle.proto_model.specs.Tokens.{Text}

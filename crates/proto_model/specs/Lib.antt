@@ -15,7 +15,7 @@ pub mod Numbered
 pub mod RuleTypes
 pub mod Proper
 pub mod Marks
-pub mod NodeSets
+pub mod NumberSets
 pub mod Values
 pub mod Guards
 pub mod ValueTypes

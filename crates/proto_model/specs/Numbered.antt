@@ -6,7 +6,7 @@ use Rattle.std.specs.Prelude.{ℕ, ◌==◌, List, unwrap_or, map}
 use Rattle.std.specs.Option.{option_map}
 use Rattle.std.specs.List.{list_any}
 use Rattle.proto_model.specs.Tokens.{Text}
-use Rattle.proto_model.specs.NodeSets.{nodes_below}
+use Rattle.proto_model.specs.NumberSets.{numbers_below}
 use Rattle.proto_model.specs.Names.{place_of, message_names, var_names, state_names}
 use Rattle.proto_model.specs.declared.protocol.Message.{Message}
 use Rattle.proto_model.specs.declared.protocol.Initial.{Initial}
@@ -45,8 +45,8 @@ use Rattle.proto_model.specs.declared.numbered.StateInfo.{StateInfo}
 use Rattle.proto_model.specs.declared.numbered.VarInfo.{VarInfo}
 use Rattle.proto_model.specs.declared.numbered.MessageInfo.{MessageInfo}
 use Rattle.proto_model.specs.declared.numbered.Body.{Body}
-use Rattle.proto_model.specs.declared.numbered.RuleClaim.{RuleClaim}
-use Rattle.proto_model.specs.declared.numbered.RuleClaim.TheVariants as rule_claim
+use Rattle.proto_model.specs.declared.numbered.NumberedClaim.{NumberedClaim}
+use Rattle.proto_model.specs.declared.numbered.NumberedClaim.TheVariants as rule_claim
 
 -- a protocol in numbered form: its name, its messages in file order, its two processes
 pub record NumberedProtocol : Type 0 where
@@ -158,10 +158,10 @@ numbered_protocol p = record {
 -- The set of the states that the names mean: bit s stands for the state at place s.
 abbrev pub state_set : List State → List Text → ℕ
 state_set states names =
-    nodes_below (λ s. list_any (λ name. place_or_zero name (state_names states) == s) names) 64
+    numbers_below (λ s. list_any (λ name. place_or_zero name (state_names states) == s) names) 64
 
 -- over the states of the remote
-abbrev pub numbered_claim : List State → Claim → RuleClaim
+abbrev pub numbered_claim : List State → Claim → NumberedClaim
 numbered_claim states (claim.AtMost most names) = rule_claim.AtMost most (state_set states names)
 numbered_claim states (claim.Apart x y) =
     rule_claim.Apart (place_or_zero x (state_names states)) (place_or_zero y (state_names states))
@@ -170,7 +170,7 @@ numbered_claim states (claim.Apart x y) =
 -- claims stand here and not in the protocol, no row, pair, table or step depends on them.
 pub record CheckedProtocol : Type 0 where
   pub protocol : NumberedProtocol
-  pub claims : List RuleClaim
+  pub claims : List NumberedClaim
 
 -- the protocol and its claims in numbered form
 abbrev pub numbered : Protocol → CheckedProtocol

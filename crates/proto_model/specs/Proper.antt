@@ -5,7 +5,7 @@ use Rattle.std.specs.Prelude.{Some, None}
 use Rattle.std.specs.List.{list_any, AllByRecursion}
 use Rattle.proto_model.specs.Tokens.{Text}
 use Rattle.proto_model.specs.Numbered.{NumberedProtocol, CheckedProtocol}
-use Rattle.proto_model.specs.NodeSets.{has_node}
+use Rattle.proto_model.specs.NumberSets.{has_number}
 use Rattle.proto_model.specs.RuleTypes.{rule_atom_agrees, rule_assign_agrees, rule_action_agrees}
 use Rattle.proto_model.specs.RuleTypes.{is_directed_rule, is_star_rule}
 use Rattle.proto_model.specs.declared.protocol.Carry.{Carry}
@@ -31,8 +31,8 @@ use Rattle.proto_model.specs.declared.numbered.StateInfo.{StateInfo}
 use Rattle.proto_model.specs.declared.numbered.VarInfo.{VarInfo}
 use Rattle.proto_model.specs.declared.numbered.MessageInfo.{MessageInfo}
 use Rattle.proto_model.specs.declared.numbered.Body.{Body}
-use Rattle.proto_model.specs.declared.numbered.RuleClaim.{RuleClaim}
-use Rattle.proto_model.specs.declared.numbered.RuleClaim.TheVariants as claim
+use Rattle.proto_model.specs.declared.numbered.NumberedClaim.{NumberedClaim}
+use Rattle.proto_model.specs.declared.numbered.NumberedClaim.TheVariants as claim
 
 -- a declared name has at most 32 bytes
 abbrev pub IsShortName : Text → Type 0
@@ -190,10 +190,10 @@ pub record IsProper (n : NumberedProtocol) : Type 0 where
 
 -- each state of the set is one of so many
 abbrev pub AreStatesOf : ℕ → ℕ → Type 0
-AreStatesOf states set = (s : ℕ) → has_node set s ≡ true → s < states
+AreStatesOf states set = (s : ℕ) → has_number set s ≡ true → s < states
 
 -- its number is at most 64, and its states are among those of a remote, which are so many
-abbrev pub IsProperClaim : ℕ → RuleClaim → Type 0
+abbrev pub IsProperClaim : ℕ → NumberedClaim → Type 0
 IsProperClaim states (claim.AtMost most set) = (most ≤ 64) × AreStatesOf states set
 IsProperClaim states (claim.Apart x y) = (x < states) × (y < states)
 

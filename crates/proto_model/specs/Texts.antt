@@ -4,7 +4,7 @@ use Rattle.std.specs.Prelude.{slice_get, map, codes, decimal}
 use Rattle.std.specs.Option.{option_map_or}
 use Rattle.std.specs.List.{join_with_byte}
 use Rattle.proto_model.specs.Tokens.{Text}
-use Rattle.proto_model.specs.NodeSets.{members}
+use Rattle.proto_model.specs.NumberSets.{members}
 use Rattle.proto_model.specs.declared.protocol.Carry.{Carry}
 use Rattle.proto_model.specs.declared.protocol.Carry.TheVariants as carry
 use Rattle.proto_model.specs.declared.numbered.Value.{Value}

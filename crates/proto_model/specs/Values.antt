@@ -4,7 +4,7 @@ use Rattle.std.specs.Prelude.{ℕ, ◌+◌, ◌-◌, ◌%◌, Bool, true, false,
 use Rattle.std.specs.Prelude.{slice_get, slice_set, Option, Some, None, unwrap_or, map, fold}
 use Rattle.std.specs.Option.{option_map_or}
 use Rattle.std.specs.List.{list_all}
-use Rattle.proto_model.specs.NodeSets.{has_node, with_node, without_node, nodes_below}
+use Rattle.proto_model.specs.NumberSets.{has_number, with_number, without_number, numbers_below}
 use Rattle.proto_model.specs.declared.protocol.Carry.{Carry}
 use Rattle.proto_model.specs.declared.protocol.Carry.TheVariants as carry
 use Rattle.proto_model.specs.declared.protocol.VarKind.{VarKind}
@@ -29,13 +29,13 @@ use Rattle.proto_model.specs.declared.numbered.VarInfo.{VarInfo}
 -- a + b: ints are added modulo 65,536, a set gets the node; adding none changes nothing
 abbrev pub plus : Value → Value → Value
 plus (value.Int a) (value.Int b) = value.Int ((a + b) % 65536)
-plus (value.Set s) (value.Node j) = value.Set (with_node s j)
+plus (value.Set s) (value.Node j) = value.Set (with_number s j)
 plus a _ = a
 
 -- a - b: ints are subtracted modulo 65,536, a set loses the node; removing none changes nothing
 abbrev pub minus : Value → Value → Value
 minus (value.Int a) (value.Int b) = value.Int ((a + 65536 - b) % 65536)
-minus (value.Set s) (value.Node j) = value.Set (without_node s j)
+minus (value.Set s) (value.Node j) = value.Set (without_number s j)
 minus a _ = a
 
 -- the two values are the same
@@ -59,7 +59,7 @@ is_at_most _ _ = false
 
 -- a node is in a set; none is in no set
 abbrev pub is_in : Value → Value → Bool
-is_in (value.Node j) (value.Set s) = has_node s j
+is_in (value.Node j) (value.Set s) = has_number s j
 is_in _ _ = false
 
 -- the relations eq, ne, lt, le, in and notin
@@ -78,7 +78,7 @@ is_node _ j = false
 
 -- the value is a set that has the remote j
 abbrev pub is_set_with : Value → ℕ → Bool
-is_set_with (value.Set s) j = has_node s j
+is_set_with (value.Set s) j = has_number s j
 is_set_with _ j = false
 
 -- an int modulo n; no other value changes
@@ -142,7 +142,7 @@ module _ (vars : List Value) where
 
   -- the targets of the rule among the remotes below n, as a set
   abbrev pub target_set : Rule → ℕ → ℕ
-  target_set rule n = nodes_below (may_meet rule.kind) n
+  target_set rule n = numbers_below (may_meet rule.kind) n
 
   -- the value of what stands behind an output, which may be nothing
   abbrev pub offered : Option RuleExpr → Value

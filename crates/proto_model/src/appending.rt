@@ -1,5 +1,5 @@
 //! Appending bytes to a text that is put together piece by piece. Once memory ran out nothing more
-//! is appended.
+//! is appended. A text begins with `Ok(())`, and each call is handed what the one before it answered.
 
 ghost use Rattle.std.specs.Prelude.{decimal};
 ghost use Rattle.proto_model.specs.Continued.{Continues};
@@ -8,10 +8,10 @@ use itoa::Buffer;
 use rv_base::NoMemory;
 
 /// What came of the pieces so far.
-pub(crate) type Put = Result<(), NoMemory>;
+pub type Appending = Result<(), NoMemory>;
 
 /// Appends the bytes, unless memory ran out before.
-pub(crate) fn put(out: &mut Vec<u8>, so_far: Put, bytes: &[u8]) -> Put
+pub fn append(out: &mut Vec<u8>, so_far: Appending, bytes: &[u8]) -> Appending
     ensures { Continues bytes.now so_far out.old.items result out.new.items }
 {
     if so_far.is_err() {
@@ -21,8 +21,8 @@ pub(crate) fn put(out: &mut Vec<u8>, so_far: Put, bytes: &[u8]) -> Put
 }
 
 /// Appends the number's decimal text, unless memory ran out before.
-pub(crate) fn put_number(out: &mut Vec<u8>, so_far: Put, number: u32) -> Put
+pub fn append_number(out: &mut Vec<u8>, so_far: Appending, number: u32) -> Appending
     ensures { Continues (decimal number) so_far out.old.items result out.new.items }
 {
-    put(out, so_far, Buffer::new().format(number).as_bytes())
+    append(out, so_far, Buffer::new().format(number).as_bytes())
 }

@@ -28,18 +28,19 @@ mod rendezvous;
 mod texts;
 mod values;
 
+pub use appending::{Appending, append, append_number};
 pub use guard::{Assign, Atom, Expr, Guard, GuardKind, Partner, Rel, Term};
 pub use laws::sets_by_members;
 pub use layout::print;
 pub use mode::Mode;
 pub use name::Name;
 pub use numbered::{
-    Body, MessageInfo, Rule, RuleAssign, RuleAtom, RuleClaim, RuleExpr, RuleKind, RulePartner,
+    Body, MessageInfo, NumberedClaim, Rule, RuleAssign, RuleAtom, RuleExpr, RuleKind, RulePartner,
     RuleTerm, Side, StateInfo, Value, ValueType, VarInfo,
 };
 pub use protocol::{Carry, Claim, Initial, Message, Process, Protocol, State, Var, VarKind};
 pub use rendezvous::{Event, Part, RvConfig};
 pub use texts::{event_text, message_text, rv_line, vars_text};
 pub use values::{
-    Vars, complete, eval, first_vars, guard_open, has_node, is_target, send_value, targets,
+    Vars, complete, eval, first_vars, guard_open, has_number, is_target, send_value, targets,
 };

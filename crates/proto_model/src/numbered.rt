@@ -128,7 +128,7 @@ pub struct Body {
 /// where bit s of the set stands for the state at place s of the remote. `Apart(x, y)`: no two
 /// different remotes stand the one in the state at place x and the other in that at place y.
 #[derive(Clone, Copy, Debug, PartialEq, Eq, Drop)]
-pub enum RuleClaim {
+pub enum NumberedClaim {
     AtMost(u8, u64),
     Apart(u8, u8),
 }

@@ -2,12 +2,12 @@
 
 mod completing;
 mod evaluation;
-mod node_sets;
+mod number_sets;
 mod vars;
 
 pub use completing::{complete, first_vars};
 pub use evaluation::{eval, guard_open, is_target, send_value, targets};
-pub use node_sets::has_node;
+pub use number_sets::has_number;
 pub use vars::Vars;
 
 #[cfg(test)]

@@ -7,7 +7,11 @@ use Rattle.std.proofs.lemmas.List.{take_more, drop_all, length-take}
 use Rattle.std.proofs.lemmas.List.Splits.{slice_split-cons_yes, slice_split-cons_no}
 use Rattle.std.specs.List.{slice_split, onto_first}
 use Rattle.rv_base.specs.Words.{is_blank, opens_blank, opens_comment, ends_word, before_comment, has_bytes, words}
-use Rattle.rv_base.proofs.BeforeComment.{before_comment-cons}
+
+-- where no comment begins, the first byte stands before it
+before_comment-cons : (b : ℕ) (bs : List ℕ) → opens_comment (b ∷ bs) ≡ false
+    → before_comment (b ∷ bs) ≡ b ∷ before_comment bs
+before_comment-cons b bs none = rw none refl
 
 blank-no_comment : (b : ℕ) (bs : List ℕ) → is_blank b ≡ true → opens_comment (b ∷ bs) ≡ false
 blank-no_comment b bs blank = grind (arith, common_steps)

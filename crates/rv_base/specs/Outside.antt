@@ -1,5 +1,5 @@
--- What a read and a write do to the bytes of what they are called on, to its count of faults, and
--- what they answer.
+-- What a read and a write do to the bytes of what they are called on, to its counts of faults and of
+-- calls without memory, and what they answer.
 use Rattle.std.specs.Prelude.{◌≡◌, Bool, true, false, ℕ, ◌+◌, ◌-◌, ◌^◌, ◌≤◌, min, List, length}
 use Rattle.std.specs.Prelude.{take, IsNone}
 use Rattle.std.specs.declared.option.Option.{Option}
@@ -23,6 +23,11 @@ abbrev pub RisesWhere : Bool → ℕ → ℕ → Type 0
 RisesWhere true before now = (before ≤ now) × Rose before now
 RisesWhere false before now = now ≡ before
 
+-- A count before and after: it may have risen where this is so, and else it stays.
+abbrev pub MayRise : Bool → ℕ → ℕ → Type 0
+MayRise true before now = before ≤ now
+MayRise false before now = now ≡ before
+
 -- The read failed.
 abbrev pub read_failed : ReadAnswer → Bool
 read_failed (Got count) = false
@@ -35,6 +40,19 @@ abbrev pub write_failed : WriteAnswer → Bool
 write_failed (Took count) = false
 write_failed WriteFailed = true
 write_failed WriteNoMemory = false
+
+-- There was no memory for the read.
+abbrev pub read_wants : ReadAnswer → Bool
+read_wants (Got count) = false
+read_wants End = false
+read_wants Failed = false
+read_wants NoMemory = true
+
+-- There was no memory for the write.
+abbrev pub write_wants : WriteAnswer → Bool
+write_wants (Took count) = false
+write_wants WriteFailed = false
+write_wants WriteNoMemory = true
 
 -- The bytes left before and after a read, and what it left in the buffer. Got: at least one byte
 -- and no more than the buffer holds stand at its front, and were the next ones left. End: nothing
@@ -54,13 +72,6 @@ ReadEnds now End = now ≡ true
 ReadEnds now Failed = now ≡ false
 ReadEnds now NoMemory = now ≡ false
 
--- Whether the last read of a source failed or had no memory, after a read.
-abbrev pub ReadGoes : Bool → ReadAnswer → Type 0
-ReadGoes now (Got count) = now ≡ false
-ReadGoes now End = now ≡ false
-ReadGoes now Failed = now ≡ true
-ReadGoes now NoMemory = now ≡ true
-
 -- The bytes taken before and after a write of a piece. Took: a front of the piece, of at least
 -- one byte, follows what was taken before. After each other answer the bytes taken stay.
 abbrev pub WriteMoves : Option (List ℕ) → Option (List ℕ) → List ℕ → WriteAnswer → Type 0
@@ -68,9 +79,3 @@ WriteMoves old new piece (Took count) =
     (1 ≤ count) × (count ≤ length piece) × (new ≡ append_known old (take count piece))
 WriteMoves old new piece WriteFailed = new ≡ old
 WriteMoves old new piece WriteNoMemory = new ≡ old
-
--- Whether the last write on a sink took nothing, after a write.
-abbrev pub WriteGoes : Bool → WriteAnswer → Type 0
-WriteGoes now (Took count) = now ≡ false
-WriteGoes now WriteFailed = now ≡ true
-WriteGoes now WriteNoMemory = now ≡ true

@@ -1,14 +1,15 @@
 -- What a sink in memory holds, and what a write adds to it.
-use Rattle.std.specs.Prelude.{◌≡◌, Bool, true, false, ℕ, ◌≤◌, min, List, [], ◌++◌, length, take}
+use Rattle.std.specs.Prelude.{◌≡◌, ℕ, ◌≤◌, min, List, [], ◌++◌, length, take}
 use Rattle.rv_base.specs.Calls.{Calls, no_calls}
+use Rattle.rv_base.specs.Outside.{counted}
 use Rattle.rv_base.specs.declared.outside.WriteAnswer.{WriteAnswer}
 use Rattle.rv_base.specs.declared.outside.WriteAnswer.TheVariants.{Took, Failed, NoMemory}
 
--- The bytes taken, the most that one write takes, and whether the last write took nothing.
+-- The bytes taken, the most that one write takes, and how many writes had no memory.
 pub record Store : Type 0 where
   pub taken : List ℕ
   pub most : ℕ
-  pub refused : Bool
+  pub wants : ℕ
 
 -- A store some of whose writes are to fail.
 pub record FailingStore : Type 0 where
@@ -17,11 +18,12 @@ pub record FailingStore : Type 0 where
 
 -- Nothing is taken yet.
 abbrev pub new_store : ℕ → Store
-new_store most = record { taken = []; most = most; refused = false }
+new_store most = record { taken = []; most = most; wants = 0 }
 
--- The store after a write that took nothing: the bytes taken stay.
-abbrev pub refusing_store : Store → Store
-refusing_store store = record { taken = store.taken; most = store.most; refused = true }
+-- The store after a write without memory: the bytes taken stay.
+abbrev pub wanting_store : Store → Store
+wanting_store store =
+    record { taken = store.taken; most = store.most; wants = counted store.wants }
 
 -- Nothing is taken yet, no write was made, and those with these numbers are to fail.
 abbrev pub new_failing_store : ℕ → List ℕ → FailingStore
@@ -33,10 +35,10 @@ abbrev pub Takes : Store → Store → List ℕ → WriteAnswer → Type 0
 Takes old new piece (Took count) =
     (1 ≤ count)
     × (count ≡ min old.most (length piece))
-    × (new ≡ record { taken = old.taken ++ take count piece; most = old.most; refused = false })
+    × (new ≡ record { taken = old.taken ++ take count piece; most = old.most; wants = old.wants })
 Takes old new piece Failed = ⊥
-Takes old new piece NoMemory = new ≡ refusing_store old
+Takes old new piece NoMemory = new ≡ wanting_store old
 
--- A write that is to fail: it answers so, and nothing is taken.
+-- A write that is to fail: it answers so, and the store stays.
 abbrev pub RefusesWrite : Store → Store → WriteAnswer → Type 0
-RefusesWrite old new answer = (answer ≡ Failed) × (new ≡ refusing_store old)
+RefusesWrite old new answer = (answer ≡ Failed) × (new ≡ old)

@@ -11,11 +11,10 @@ pub record Supply : Type 0 where
   pub most : ℕ
   pub ended : Bool
 
--- A supply some of whose reads are to fail, and whether the last one did.
+-- A supply some of whose reads are to fail.
 pub record FailingSupply : Type 0 where
   pub supply : Supply
   pub calls : Calls
-  pub refused : Bool
 
 -- These bytes are left, and the last read, where there was one, didn't answer End.
 abbrev pub new_supply : List ℕ → ℕ → Supply
@@ -28,7 +27,7 @@ ended_supply supply = record { left = supply.left; most = supply.most; ended = t
 -- These bytes are left, no read was made yet, and those with these numbers are to fail.
 abbrev pub new_failing_supply : List ℕ → ℕ → List ℕ → FailingSupply
 new_failing_supply bytes most failing =
-    record { supply = new_supply bytes most; calls = no_calls failing; refused = false }
+    record { supply = new_supply bytes most; calls = no_calls failing }
 
 -- A read that doesn't fail. Where something is left, it gives the next bytes: the lesser of the
 -- most that one read gives and the length of the buffer, and no more than is left. They stand at

@@ -1,6 +1,5 @@
--- What reading a source to its end and writing a text whole do to the bytes, and how the last read
--- and the last write went.
-use Rattle.std.specs.Prelude.{◌≡◌, Bool, true, false, ◌⊎◌, ℕ, ◌+◌, ◌≤◌, ◌<◌, List, length, take, ⊤}
+-- What reading a source to its end and writing a text whole do to the bytes, and what is counted.
+use Rattle.std.specs.Prelude.{◌≡◌, Bool, true, false, ℕ, ◌+◌, ◌≤◌, ◌<◌, List, length, take}
 use Rattle.std.specs.declared.option.Option.{Option}
 use Rattle.std.specs.Io.KnownBytes.{prepend_known, append_known, IsAtEnd}
 use Rattle.rv_base.specs.declared.whole.Gathered.{Gathered}
@@ -46,14 +45,13 @@ gathering_failed TooLong = false
 gathering_failed Failed = true
 gathering_failed NoMemory = false
 
--- Whether the last read of a source failed or had no memory, after it is read whole: neither where
--- all that was left is answered, nor where the source gave more than the limit. Of want of memory,
--- which may be the source's or that of the bytes gathered, nothing is said.
-abbrev pub ReadsThrough : Bool → Gathered → Type 0
-ReadsThrough now (Whole bytes) = now ≡ false
-ReadsThrough now TooLong = now ≡ false
-ReadsThrough now Failed = now ≡ true
-ReadsThrough now NoMemory = ⊤
+-- There was no memory while a source was read whole: none for a read, or none for the bytes
+-- gathered.
+abbrev pub gathering_wants : Gathered → Bool
+gathering_wants (Whole bytes) = false
+gathering_wants TooLong = false
+gathering_wants Failed = false
+gathering_wants NoMemory = true
 
 -- A front of the text, and not the whole of it, follows what was taken before.
 abbrev pub TakesPart : Option (List ℕ) → Option (List ℕ) → List ℕ → Type 0
@@ -73,10 +71,8 @@ writing_failed WroteWhole = false
 writing_failed WriteFailed = true
 writing_failed WriteNoMemory = false
 
--- A sink before and after a text is written whole, and whether its last write took nothing. Whole:
--- no write was made, or the last one took something. After a failure or want of memory the last
--- write took nothing.
-abbrev pub WritesThrough : {O : Type 0} → (O → Bool) → O → O → Wrote → Type 0
-WritesThrough refused old new WroteWhole = (new ≡ old) ⊎ (refused new ≡ false)
-WritesThrough refused old new WriteFailed = refused new ≡ true
-WritesThrough refused old new WriteNoMemory = refused new ≡ true
+-- There was no memory for a write while a text was written whole.
+abbrev pub writing_wants : Wrote → Bool
+writing_wants WroteWhole = false
+writing_wants WriteFailed = false
+writing_wants WriteNoMemory = true

@@ -7,9 +7,10 @@
 //! - `no_memory`: the one error of a call that allocates.
 //! - `numbers` and `numerals`: numbers written as decimal text, and read from it.
 //! - `outside`: sources and sinks of bytes, as traits. A contract speaks of the bytes left or
-//!   taken, where they are told, of a count of faults, and of what the last call answered: a call
-//!   may answer that reading or writing failed only where the count of that source or sink rose,
-//!   and that a source is at its end only where its last read said so.
+//!   taken, where they are told, of a count of faults and one of calls without memory, and of
+//!   whether the last read answered the end: a call may answer that reading or writing failed only
+//!   where the count of faults of that source or sink rose, and that a source is at its end only
+//!   where its last read said so.
 //! - `memory`: sources and sinks in memory, which do exactly as they are told, failing calls
 //!   included.
 //! - `whole`: the two loops over the outside, a file read to its end and a text written whole.
@@ -34,4 +35,4 @@ pub use numbers::put_number;
 pub use numerals::read_number;
 pub use outside::{ReadAnswer, Sink, Source, WriteAnswer};
 pub use whole::{FILE_LIMIT, Gathered, Wrote, read_whole, write_whole};
-pub use words::{next_word, word_at};
+pub use words::next_word;

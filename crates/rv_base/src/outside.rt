@@ -2,8 +2,8 @@
 
 ghost use Rattle.std.specs.Prelude.{◌<◌, Bool, List, ℕ, length};
 ghost use Rattle.std.specs.declared.option.Option.{Option};
-ghost use Rattle.rv_base.specs.Outside.{RisesWhere, ReadMoves, ReadEnds, ReadGoes, read_failed};
-ghost use Rattle.rv_base.specs.Outside.{WriteMoves, WriteGoes, write_failed};
+ghost use Rattle.rv_base.specs.Outside.{RisesWhere, ReadMoves, ReadEnds, read_failed, read_wants};
+ghost use Rattle.rv_base.specs.Outside.{WriteMoves, write_failed, write_wants};
 
 /// What a read answers.
 #[derive(Clone, Copy, Debug, PartialEq, Eq)]
@@ -14,8 +14,8 @@ pub enum ReadAnswer {
     End,
     /// A fault, which was counted. What is left stays.
     Failed,
-    /// There is no memory for the call. What is left stays. A source that tells what is left
-    /// never answers so.
+    /// There is no memory for the call, which was counted. What is left stays. A source that tells
+    /// what is left never answers so.
     NoMemory,
 }
 
@@ -26,7 +26,7 @@ pub enum WriteAnswer {
     Took(usize),
     /// A fault, which was counted. Nothing was taken.
     Failed,
-    /// There is no memory for the call. Nothing was taken.
+    /// There is no memory for the call, which was counted. Nothing was taken.
     NoMemory,
 }
 
@@ -38,19 +38,19 @@ pub trait Source {
     /// How many reads failed. The count never falls, and stops at 2^64 - 1.
     ghost faults: { Self → ℕ };
 
+    /// How many reads had no memory. The count never falls, and stops at 2^64 - 1.
+    ghost wants: { Self → ℕ };
+
     /// Whether the last read answered `End`.
     ghost ended: { Self → Bool };
-
-    /// Whether the last read answered `Failed` or `NoMemory`.
-    ghost refused: { Self → Bool };
 
     /// Reads at least one and at most `into.len()` bytes to the front of `into`, or says why not.
     fn read(&mut self, into: &mut [u8]) -> ReadAnswer
         requires { 0 < length into.old }
         ensures bytes { ReadMoves (left self.old) (left self.new) into.new result }
         ensures cause { RisesWhere (read_failed result) (faults self.old) (faults self.new) }
-        ensures ends { ReadEnds (ended self.new) result }
-        ensures went { ReadGoes (refused self.new) result };
+        ensures wants { RisesWhere (read_wants result) (wants self.old) (wants self.new) }
+        ensures ends { ReadEnds (ended self.new) result };
 }
 
 /// What takes bytes, one after another.
@@ -61,13 +61,13 @@ pub trait Sink {
     /// How many writes failed. The count never falls, and stops at 2^64 - 1.
     ghost faults: { Self → ℕ };
 
-    /// Whether the last write answered anything but `Took`.
-    ghost refused: { Self → Bool };
+    /// How many writes had no memory. The count never falls, and stops at 2^64 - 1.
+    ghost wants: { Self → ℕ };
 
     /// Takes at least one byte and at most all of `piece`, from its front, or says why not.
     fn write(&mut self, piece: &[u8]) -> WriteAnswer
         requires { 0 < length piece.now }
         ensures bytes { WriteMoves (taken self.old) (taken self.new) piece.now result }
         ensures cause { RisesWhere (write_failed result) (faults self.old) (faults self.new) }
-        ensures went { WriteGoes (refused self.new) result };
+        ensures wants { RisesWhere (write_wants result) (wants self.old) (wants self.new) };
 }

@@ -1,9 +1,9 @@
 //! A source read to its end, and a text written whole.
 
 ghost use Rattle.std.specs.Prelude.{◌≡◌, ◌≤◌, ◌<◌, ◌^◌, List};
-ghost use Rattle.rv_base.specs.Outside.{RisesWhere};
-ghost use Rattle.rv_base.specs.Whole.{Reads, ReadsToEnd, ReadsThrough, gathering_failed};
-ghost use Rattle.rv_base.specs.Whole.{Writes, WritesThrough, writing_failed};
+ghost use Rattle.rv_base.specs.Outside.{RisesWhere, MayRise};
+ghost use Rattle.rv_base.specs.Whole.{Reads, ReadsToEnd, gathering_failed, gathering_wants};
+ghost use Rattle.rv_base.specs.Whole.{Writes, writing_failed, writing_wants};
 
 use crate::{ReadAnswer, Sink, Source, WriteAnswer};
 use std::alloc::Global;
@@ -46,8 +46,8 @@ pub fn read_whole<S: Source>(alloc: Global, source: &mut S, limit: usize) -> Gat
     ensures bytes { Reads limit (S.left source.old) (S.left source.new) result }
     ensures cause { RisesWhere (gathering_failed result) (S.faults source.old)
         (S.faults source.new) }
+    ensures wants { MayRise (gathering_wants result) (S.wants source.old) (S.wants source.new) }
     ensures ends { ReadsToEnd (S.ended source.new) result }
-    ensures went { ReadsThrough (S.refused source.new) result }
 {
     let mut bytes = Vec::new(alloc);
     let mut piece = [0u8; PIECE];
@@ -71,7 +71,7 @@ pub fn read_whole<S: Source>(alloc: Global, source: &mut S, limit: usize) -> Gat
 pub fn write_whole<O: Sink>(out: &mut O, text: &[u8]) -> Wrote
     ensures bytes { Writes (O.taken out.old) (O.taken out.new) text.now result }
     ensures cause { RisesWhere (writing_failed result) (O.faults out.old) (O.faults out.new) }
-    ensures went { WritesThrough O.refused out.old out.new result }
+    ensures wants { RisesWhere (writing_wants result) (O.wants out.old) (O.wants out.new) }
 {
     let mut done = 0;
     while done < text.len() {

@@ -14,7 +14,7 @@ use Rattle.proto_model.specs.declared.numbered.Side.{Side}
 use Rattle.proto_model.specs.declared.numbered.Side.TheVariants as side
 use Rattle.proto_model.specs.declared.numbered.MessageInfo.{MessageInfo}
 use Rattle.proto_model.specs.declared.numbered.Body.{Body}
-use Rattle.proto_model.specs.declared.numbered.RuleClaim.{RuleClaim}
+use Rattle.proto_model.specs.declared.numbered.NumberedClaim.{NumberedClaim}
 use Rattle.star_check.specs.declared.scope.Scope as code
 use Rattle.star_check.specs.Scopes.{process_seen, IsScopeOf, IsNumberable}
 use Rattle.star_check.proofs.ProperBodies.{few_states}
@@ -74,7 +74,7 @@ module _ (p : Protocol) (home remote : code.Scope) (own_home : IsScopeOf home si
       (λ t. let n : NumberedProtocol = record { name = p.name; messages = map numbered_message p.messages; home = numbered_process p.messages p.home; remote = t } in n)
       (is_remote ∙ body_seen remote side.Remote p.messages p.remote own_remote)
 
-  pub made-numbered : (n : NumberedProtocol) (claims : List RuleClaim) → n ≡ numbered_protocol p
+  pub made-numbered : (n : NumberedProtocol) (claims : List NumberedClaim) → n ≡ numbered_protocol p
       → claims ≡ map (numbered_claim remote.states) p.claims
       → (checked : CheckedProtocol) → checked ≡ record { protocol = n; claims = claims }
       → checked ≡ numbered p

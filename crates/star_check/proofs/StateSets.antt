@@ -11,12 +11,12 @@ use Rattle.std.proofs.lemmas.Bool.{and_right, or_right, cond-true}
 use Rattle.std.proofs.lemmas.List.Folds.{list_any_more}
 use Rattle.proto_model.specs.Tokens.{Text}
 use Rattle.proto_model.specs.Names.{is_declared, state_names}
-use Rattle.proto_model.specs.NodeSets.{has_node, with_node}
+use Rattle.proto_model.specs.NumberSets.{has_number, with_number}
 use Rattle.proto_model.specs.Numbered.{place_or_zero, state_set}
 use Rattle.proto_model.specs.Proper.{AreStatesOf}
 use Rattle.proto_model.specs.declared.protocol.State.{State}
-use Rattle.proto_model.proofs.NodeBits.{has_node-nodes_below, has_node-above, bit-small}
-use Rattle.proto_model.proofs.NodeSets.{has_node-with}
+use Rattle.proto_model.proofs.NumberBits.{has_number-numbers_below, has_number-above, bit-small}
+use Rattle.proto_model.proofs.NumberSets.{has_number-with}
 use Rattle.star_check.proofs.InRange.{place_in_range}
 
 same_bit : (a b : ℕ) → a < 2 → b < 2 → (a == 1) ≡ (b == 1) → a ≡ b
@@ -30,7 +30,7 @@ same_bit a b small_a small_b same = by (b == 1) refl
         omega arith
 
 -- sets with the same members are the same
-same_members : (a b : ℕ) → ((s : ℕ) → has_node a s ≡ has_node b s) → a ≡ b
+same_members : (a b : ℕ) → ((s : ℕ) → has_number a s ≡ has_number b s) → a ≡ b
 same_members a b same =
     same_from_bits a b
     (λ s. same_bit (bit_at a s) (bit_at b s) (bit_at-lt a s) (bit_at-lt b s) (same s))
@@ -57,32 +57,33 @@ module _ (states : List State) where
   abbrev means : ℕ → Text → Bool
   means s name = place_or_zero name (state_names states) == s
 
-  has_node-state_set : (names : List Text) (s : ℕ)
-      → has_node (state_set states names) s ≡ (nat_lt s 64 && list_any (means s) names)
-  has_node-state_set names s = has_node-nodes_below (λ s. list_any (means s) names) 64 s
+  -- a state is in the set of these names where one of them means it
+  pub has_number-state_set : (names : List Text) (s : ℕ)
+      → has_number (state_set states names) s ≡ (nat_lt s 64 && list_any (means s) names)
+  has_number-state_set names s = has_number-numbers_below (λ s. list_any (means s) names) 64 s
 
   pub state_set-none : state_set states [] ≡ 0
   state_set-none =
       same_members (state_set states []) 0
-      (λ s. has_node-state_set [] s ∙ and_right (nat_lt s 64) false refl
-      ∙ sym (has_node-above 0 0 s (lit< tt) (omega arith)))
+      (λ s. has_number-state_set [] s ∙ and_right (nat_lt s 64) false refl
+      ∙ sym (has_number-above 0 0 s (lit< tt) (omega arith)))
 
   with_name : (names : List Text) (i : ℕ) (name : Text) (number : ℕ) → i < length names
       → name ≡ get_or names i name → number ≡ place_or_zero name (state_names states)
       → number < 64
-      → with_node (state_set states (take i names)) number ≡ state_set states (take (i + 1) names)
+      → with_number (state_set states (take i names)) number ≡ state_set states (take (i + 1) names)
   with_name names i name number within at is small =
       let front = take i names in
       let here : (s : ℕ) → means s (get_or names i name) ≡ (number == s) =
       λ s. ap (means s) (sym at) ∙ ap (λ n. n == s) (sym is) in
-      same_members (with_node (state_set states front) number)
+      same_members (with_number (state_set states front) number)
       (state_set states (take (i + 1) names))
-      (λ s. has_node-with (state_set states front) number s small
-      ∙ ap (λ b. (s == number) || b) (has_node-state_set front s)
+      (λ s. has_number-with (state_set states front) number s small
+      ∙ ap (λ b. (s == number) || b) (has_number-state_set front s)
       ∙ more_members s number (list_any (means s) front) small
       ∙ ap (λ b. nat_lt s 64 && (list_any (means s) front || b)) (sym (here s))
       ∙ ap (λ b. nat_lt s 64 && b) (sym (list_any_more (means s) names i name within))
-      ∙ sym (has_node-state_set (take (i + 1) names) s))
+      ∙ sym (has_number-state_set (take (i + 1) names) s))
 
   -- one more name, and the bit of its state
   pub state_set-more : (names : List Text) (i : ℕ) (name : Text) (number set : ℕ) → i < length names
@@ -92,7 +93,7 @@ module _ (states : List State) where
   state_set-more names i name number set within at is small so_far =
       ap (bit_or set) (bit-small number small)
       ∙ sym (cond-true (nat_lt number 64) (bit_or set (2 ^ number)) set (lt-ltb number 64 small))
-      ∙ ap (λ t. with_node t number) so_far ∙ with_name names i name number within at is small
+      ∙ ap (λ t. with_number t number) so_far ∙ with_name names i name number within at is small
 
   module _ {B : Type 0} (form : State → B) where
     named_state : (names : List Text)
@@ -122,5 +123,5 @@ module _ (states : List State) where
     are_states names known s has =
         let both =
         and_parts (nat_lt s 64) (list_any (means s) names)
-        (sym (has_node-state_set names s) ∙ has) in
+        (sym (has_number-state_set names s) ∙ has) in
         named_state names known s both.1

@@ -14,7 +14,7 @@ use crate::fault::Fault;
 use crate::number::{number_body, number_claims, number_messages};
 use crate::scope::Scope;
 use crate::walk::check_items;
-use proto_model::{Body, Message, MessageInfo, Name, Protocol, RuleClaim, Side};
+use proto_model::{Body, Message, MessageInfo, Name, NumberedClaim, Protocol, Side};
 use rv_base::{Items, NoMemory};
 use std::alloc::Global;
 use std::marker::Model;
@@ -28,7 +28,7 @@ pub struct Checked {
     messages: Items<MessageInfo>,
     home: Body,
     remote: Body,
-    claims: Items<RuleClaim>,
+    claims: Items<NumberedClaim>,
 }
 
 impl Model for Checked {
@@ -81,7 +81,7 @@ impl Checked {
     }
 
     /// The claims in file order.
-    pub fn claims(&self) -> &[RuleClaim]
+    pub fn claims(&self) -> &[NumberedClaim]
         ensures value { result.now ≡ self.now.claims }
         ensures proper { IsProperChecked self.now }
     {

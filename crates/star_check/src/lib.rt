@@ -9,7 +9,7 @@
 //! - `walk`: the first fault of a protocol, item by item.
 //! - `number`: the numbered form.
 //! - `checked`: the call that checks, and the protocol that was checked.
-//! - `laws`: that what was checked is proper.
+//! - `laws`: that what was checked is proper, and what the set of a claim has.
 #![tactic(auto)]
 
 mod checked;
@@ -26,4 +26,4 @@ mod walk;
 
 pub use checked::{CheckError, Checked, check};
 pub use fault::Fault;
-pub use laws::well_formed_is_proper;
+pub use laws::{state_set_by_names, well_formed_is_proper};

@@ -11,7 +11,7 @@ use crate::declared::{Declaration, Declared};
 use crate::scope::Scope;
 use proto_model::{
     Assign, Atom, Body, Claim, Expr, Guard, GuardKind, Initial, Message, MessageInfo, Name,
-    Partner, Rule, RuleAssign, RuleAtom, RuleClaim, RuleExpr, RuleKind, RulePartner, RuleTerm,
+    NumberedClaim, Partner, Rule, RuleAssign, RuleAtom, RuleExpr, RuleKind, RulePartner, RuleTerm,
     State, StateInfo, Term, Value, Var, VarInfo,
 };
 use rv_base::{Items, NoMemory};
@@ -288,7 +288,7 @@ impl Numbered<()> for Message {
 }
 
 impl<'a> Numbered<Declared<'a, State>> for Claim {
-    type Form = RuleClaim;
+    type Form = NumberedClaim;
 
     ghost form = { spec.numbered_claim };
 
@@ -300,14 +300,14 @@ impl<'a> Numbered<Declared<'a, State>> for Claim {
         &self,
         _alloc: Global,
         states: &Declared<'a, State>,
-    ) -> Result<RuleClaim, NoMemory> {
+    ) -> Result<NumberedClaim, NoMemory> {
         match self {
             Claim::AtMost(most, names) => {
                 let set = states.number_set(names.as_slice());
-                Ok(RuleClaim::AtMost(*most as u8, set))
+                Ok(NumberedClaim::AtMost(*most as u8, set))
             }
             Claim::Apart(one, other) => {
-                Ok(RuleClaim::Apart(states.number(one), states.number(other)))
+                Ok(NumberedClaim::Apart(states.number(one), states.number(other)))
             }
         }
     }
@@ -341,7 +341,7 @@ pub(crate) fn number_claims(
     alloc: Global,
     states: &Declared<State>,
     claims: &[Claim],
-) -> Result<Items<RuleClaim>, NoMemory>
+) -> Result<Items<NumberedClaim>, NoMemory>
     requires few { length states.now ≤ 64 }
     requires fits { list_any faults.is_large_claim claims.now ≡ false }
     ensures { IfOk result (λ rules. rules ≡ map (spec.numbered_claim states.now) claims.now) }

@@ -6,7 +6,7 @@ ghost use Rattle.proto_model.specs.LaidOut as spec;
 ghost use Rattle.proto_model.specs.Marks as marks;
 ghost use Rattle.proto_model.specs.Marks.{Puts, Stands, Lays, Indent, Word, LineEnd};
 
-use crate::appending::put;
+use crate::appending::append;
 use itoa::Buffer;
 use rv_base::NoMemory;
 
@@ -97,6 +97,6 @@ impl Writer {
     fn put(&mut self, bytes: &[u8])
         ensures { Puts bytes.now self.old self.new }
     {
-        self.result = put(&mut self.text, self.result, bytes);
+        self.result = append(&mut self.text, self.result, bytes);
     }
 }

@@ -1,7 +1,7 @@
 //! What expressions are worth, which rules are open, whom they may meet, and what they send.
 
 ghost use Rattle.std.specs.Prelude.{◌≡◌, ℕ, ◌≤◌, ◌&&◌, nat_lt, List};
-ghost use Rattle.proto_model.specs.NodeSets.{has_node as has_member};
+ghost use Rattle.proto_model.specs.NumberSets.{has_number as has_member};
 ghost use Rattle.proto_model.specs.Proper.{IsBound, IsProperCarry};
 ghost use Rattle.proto_model.specs.Values as values;
 ghost use Rattle.proto_model.specs.ValueTypes.{IsCarried, IsTyped, Offers};
@@ -11,7 +11,7 @@ ghost use Rattle.proto_model.specs.declared.numbered.VarInfo.{VarInfo};
 use crate::guard::Rel;
 use crate::numbered::{Rule, RuleAtom, RuleExpr, RuleKind, RulePartner, RuleTerm, Value};
 use crate::protocol::Carry;
-use crate::values::node_sets::{has_node, with_node, without_node};
+use crate::values::number_sets::{has_number, with_number, without_number};
 use crate::values::vars::Vars;
 
 // The value of the variable at this place; `Unit` past the end.
@@ -37,7 +37,7 @@ fn plus(left: Value, right: Value) -> Value
 {
     match (left, right) {
         (Value::Int(a), Value::Int(b)) => Value::Int(a.wrapping_add(b)),
-        (Value::Set(set), Value::Node(node)) => Value::Set(with_node(set, node)),
+        (Value::Set(set), Value::Node(node)) => Value::Set(with_number(set, node)),
         (left, _) => left,
     }
 }
@@ -47,7 +47,7 @@ fn minus(left: Value, right: Value) -> Value
 {
     match (left, right) {
         (Value::Int(a), Value::Int(b)) => Value::Int(a.wrapping_sub(b)),
-        (Value::Set(set), Value::Node(node)) => Value::Set(without_node(set, node)),
+        (Value::Set(set), Value::Node(node)) => Value::Set(without_number(set, node)),
         (left, _) => left,
     }
 }
@@ -98,7 +98,7 @@ fn is_in(left: Value, right: Value) -> bool
     ensures { result ≡ values.is_in left right }
 {
     match (left, right) {
-        (Value::Node(node), Value::Set(set)) => has_node(set, node),
+        (Value::Node(node), Value::Set(set)) => has_number(set, node),
         _ => false,
     }
 }
@@ -136,7 +136,7 @@ fn is_target_of(partner: RulePartner, vars: &Vars, node: u8) -> bool
         RulePartner::Home => false,
         RulePartner::Any(_) => true,
         RulePartner::Member(_, set) => match var_value(vars, set) {
-            Value::Set(set) => has_node(set, node),
+            Value::Set(set) => has_number(set, node),
             _ => false,
         },
         RulePartner::Named(place) => match var_value(vars, place) {

@@ -3,7 +3,7 @@
 ghost use Rattle.std.specs.Prelude.{◌≡◌, ◌<◌, ◌≤◌, length, IfOk, Some};
 ghost use Rattle.std.specs.Bool.{OnTrue, OnFalse};
 ghost use Rattle.rv_base.specs.Calls.{fails_next, after_call};
-ghost use Rattle.rv_base.specs.Outside.{RisesWhere, WriteMoves, WriteGoes, write_failed};
+ghost use Rattle.rv_base.specs.Outside.{RisesWhere, WriteMoves, write_failed, write_wants};
 ghost use Rattle.rv_base.specs.Store.{Store, FailingStore, new_store, new_failing_store};
 ghost use Rattle.rv_base.specs.Store.{Takes, RefusesWrite};
 
@@ -17,7 +17,7 @@ use std::marker::Model;
 pub struct SteadySink {
     bytes: Vec<u8>,
     most: usize,
-    refused: bool,
+    wants: u64,
 }
 
 impl Model for SteadySink {
@@ -26,7 +26,7 @@ impl Model for SteadySink {
     ghost view = { λ sink. record {
       taken = sink.bytes.items;
       most = sink.most;
-      refused = sink.refused;
+      wants = sink.wants;
     } };
 
     ghost invariant = { λ sink. 1 ≤ sink.most };
@@ -41,7 +41,7 @@ impl SteadySink {
         SteadySink {
             bytes: Vec::new(alloc),
             most,
-            refused: false,
+            wants: 0,
         }
     }
 
@@ -58,19 +58,19 @@ impl Sink for SteadySink {
 
     ghost faults = { λ _. 0 };
 
-    ghost refused = { λ sink. sink.refused };
+    ghost wants = { λ sink. sink.wants };
 
     /// Takes the lesser of `most` and `piece.len()` bytes, or answers that its memory can't grow.
     fn write(&mut self, piece: &[u8]) -> WriteAnswer
         requires { 0 < length piece.now }
         ensures bytes { WriteMoves (Some self.old.taken) (Some self.new.taken) piece.now result }
         ensures cause { RisesWhere (write_failed result) 0 0 }
-        ensures went { WriteGoes self.new.refused result }
+        ensures wants { RisesWhere (write_wants result) self.old.wants self.new.wants }
         ensures exact { Takes self.old self.new piece.now result }
     {
         let count = self.most.min(piece.len());
-        self.refused = self.bytes.extend_from_slice(&piece[..count]).is_err();
-        if self.refused {
+        if self.bytes.extend_from_slice(&piece[..count]).is_err() {
+            self.wants = self.wants.saturating_add(1);
             return WriteAnswer::NoMemory;
         }
         WriteAnswer::Took(count)
@@ -116,7 +116,7 @@ impl Sink for MemorySink {
 
     ghost faults = { λ sink. sink.calls.failed };
 
-    ghost refused = { λ sink. sink.store.refused };
+    ghost wants = { λ sink. sink.store.wants };
 
     /// Writes as a `SteadySink` does, or fails where the number of this call is listed.
     fn write(&mut self, piece: &[u8]) -> WriteAnswer
@@ -125,7 +125,7 @@ impl Sink for MemorySink {
             piece.now result }
         ensures cause { RisesWhere (write_failed result) self.old.calls.failed
             self.new.calls.failed }
-        ensures went { WriteGoes self.new.store.refused result }
+        ensures wants { RisesWhere (write_wants result) self.old.store.wants self.new.store.wants }
         ensures calls { self.new.calls ≡ after_call self.old.calls }
         ensures listed { OnTrue (fails_next self.old.calls)
             (RefusesWrite self.old.store self.new.store result) }
@@ -133,7 +133,6 @@ impl Sink for MemorySink {
             (Takes self.old.store self.new.store piece.now result) }
     {
         if self.calls.fails() {
-            self.steady.refused = true;
             WriteAnswer::Failed
         } else {
             self.steady.write(piece)

@@ -3,7 +3,7 @@
 ghost use Rattle.std.specs.Prelude.{◌≡◌, ◌<◌, ◌≤◌, false, drop, length, vec_len, IfOk, Some};
 ghost use Rattle.std.specs.Bool.{OnTrue, OnFalse};
 ghost use Rattle.rv_base.specs.Calls.{fails_next, after_call};
-ghost use Rattle.rv_base.specs.Outside.{RisesWhere, ReadMoves, ReadEnds, ReadGoes, read_failed};
+ghost use Rattle.rv_base.specs.Outside.{RisesWhere, ReadMoves, ReadEnds, read_failed, read_wants};
 ghost use Rattle.rv_base.specs.Supply.{Supply, FailingSupply, new_supply, new_failing_supply};
 ghost use Rattle.rv_base.specs.Supply.{Gives, RefusesRead};
 
@@ -53,17 +53,17 @@ impl Source for SteadySource {
 
     ghost faults = { λ _. 0 };
 
-    ghost ended = { λ source. source.ended };
+    ghost wants = { λ _. 0 };
 
-    ghost refused = { λ _. false };
+    ghost ended = { λ source. source.ended };
 
     /// Reads the lesser of `most` and `into.len()`, and no more than is left.
     fn read(&mut self, into: &mut [u8]) -> ReadAnswer
         requires { 0 < length into.old }
         ensures bytes { ReadMoves (Some self.old.left) (Some self.new.left) into.new result }
         ensures cause { RisesWhere (read_failed result) 0 0 }
+        ensures wants { RisesWhere (read_wants result) 0 0 }
         ensures ends { ReadEnds self.new.ended result }
-        ensures went { ReadGoes false result }
         ensures exact { Gives self.old self.new into.old into.new result }
     {
         let rest = &self.bytes[self.at..];
@@ -83,17 +83,12 @@ impl Source for SteadySource {
 pub struct MemorySource {
     steady: SteadySource,
     calls: CallCounter,
-    refused: bool,
 }
 
 impl Model for MemorySource {
     ghost Value = { FailingSupply };
 
-    ghost view = { λ source. record {
-      supply = source.steady;
-      calls = source.calls;
-      refused = source.refused;
-    } };
+    ghost view = { λ source. record { supply = source.steady; calls = source.calls } };
 }
 
 impl MemorySource {
@@ -111,7 +106,6 @@ impl MemorySource {
         Ok(MemorySource {
             steady: SteadySource::new(alloc, bytes, most)?,
             calls: CallCounter::new(alloc, failing)?,
-            refused: false,
         })
     }
 }
@@ -121,9 +115,9 @@ impl Source for MemorySource {
 
     ghost faults = { λ source. source.calls.failed };
 
-    ghost ended = { λ source. source.supply.ended };
+    ghost wants = { λ _. 0 };
 
-    ghost refused = { λ source. source.refused };
+    ghost ended = { λ source. source.supply.ended };
 
     /// Reads as a `SteadySource` does, or fails where the number of this call is listed.
     fn read(&mut self, into: &mut [u8]) -> ReadAnswer
@@ -132,16 +126,15 @@ impl Source for MemorySource {
             into.new result }
         ensures cause { RisesWhere (read_failed result) self.old.calls.failed
             self.new.calls.failed }
+        ensures wants { RisesWhere (read_wants result) 0 0 }
         ensures ends { ReadEnds self.new.supply.ended result }
-        ensures went { ReadGoes self.new.refused result }
         ensures calls { self.new.calls ≡ after_call self.old.calls }
         ensures listed { OnTrue (fails_next self.old.calls)
             (RefusesRead self.old.supply self.new.supply into.old into.new result) }
         ensures unlisted { OnFalse (fails_next self.old.calls)
             (Gives self.old.supply self.new.supply into.old into.new result) }
     {
-        self.refused = self.calls.fails();
-        if self.refused {
+        if self.calls.fails() {
             self.steady.ended = false;
             ReadAnswer::Failed
         } else {

@@ -1,6 +1,5 @@
--- So far a front of the text was taken, no write failed, and the last one, where there was one, took
--- something.
-use Rattle.std.proofs.Common.{◌≡◌, ◌≤◌, ◌-◌, ◌⊎◌, false, length, take}
+-- So far a front of the text was taken, and no write failed or had no memory.
+use Rattle.std.proofs.Common.{◌≡◌, ◌≤◌, ◌-◌, length, take}
 use Rattle.std.specs.Io.KnownBytes.{append_known}
 use Rattle.rv_base.proofs.whole.write_whole.Given as goal
 
@@ -9,7 +8,7 @@ invariant-loop-done g l = record {
   taken : g.O.Sink.taken l.out ≡ append_known (g.O.Sink.taken l.fn.out) (take l.done l.text);
   same_count : g.O.Sink.faults l.out ≡ g.O.Sink.faults l.fn.out;
   within : l.done ≤ length l.text;
-  goes_on : (l.out ≡ l.fn.out) ⊎ (g.O.Sink.refused l.out ≡ false);
+  same_wants : g.O.Sink.wants l.out ≡ g.O.Sink.wants l.fn.out;
 }
 
 abbrev pub decreases-loop-done : goal.decreases-loop-done

@@ -1,14 +1,14 @@
 -- A member is written behind the ones below it.
 use Rattle.std.proofs.Common.{◌≡◌, ◌+◌, Bool, true, false, ◌++◌, sym, ap, subst, ◌∙◌}
 use Rattle.proto_model.specs.Tokens.{Text}
-use Rattle.proto_model.specs.NodeSets.{has_node, members_below}
+use Rattle.proto_model.specs.NumberSets.{has_number, members_below}
 use Rattle.proto_model.specs.Texts.{member_text}
 use Rattle.proto_model.specs.Continued.{Continues}
 use Rattle.proto_model.proofs.Continuing.{joined, is_nil, Continues-none, Continues-append}
 use Rattle.proto_model.proofs.Continuing.{members_below-none, members_below-without, joined-with}
 use Rattle.proto_model.proofs.Continuing.{is_nil-with}
 use Rattle.proto_model.proofs.texts.pieces.put_members.Goals as goal
-use Rattle.proto_model.proofs.texts.pieces.put_members.Goals.{then-has_node, else-has_node}
+use Rattle.proto_model.proofs.texts.pieces.put_members.Goals.{then-has_number, else-has_number}
 
 pub loop-node-init : goal.loop-node-init
 loop-node-init c =
@@ -23,9 +23,9 @@ loop-node-preserved c =
     let set = c.args.set in
     let node = c.loop-node.node in
     let before = joined (members_below set node) in
-    elim c.if-has_node.branch [
-      | then-has_node w ↦
-          let has : has_node set node ≡ true = cc in
+    elim c.if-has_number.branch [
+      | then-has_number w ↦
+          let has : has_number set node ≡ true = cc in
           let grown : before ++ member_text c.loop-node.first node ≡ joined (members_below set (node + 1)) =
           ap (λ (first : Bool). before ++ member_text first node) c.loop-node.invariant.first
           ∙ sym (joined-with set node has) in
@@ -34,8 +34,8 @@ loop-node-preserved c =
             text = rw (w.so_far-is, w.out-is) (subst (λ (text : Text). Continues text c.args.so_far c.args.out.now.items w.put_member-so_far.result w.put_member-so_far.new.out.items) grown both);
             first = w.first-is ∙ sym (is_nil-with set node has);
           }
-      | else-has_node w ↦
-          let has : has_node set node ≡ false = cc in
+      | else-has_number w ↦
+          let has : has_number set node ≡ false = cc in
           let same = members_below-without set node has in
           record {
             text = rw (w.so_far-is, w.out-is, same) c.loop-node.invariant.text;

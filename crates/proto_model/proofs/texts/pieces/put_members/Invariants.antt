@@ -1,6 +1,6 @@
 -- So far the members below this number are written.
 use Rattle.std.proofs.Common.{◌≡◌}
-use Rattle.proto_model.specs.NodeSets.{members_below}
+use Rattle.proto_model.specs.NumberSets.{members_below}
 use Rattle.proto_model.specs.Continued.{Continues}
 use Rattle.proto_model.proofs.Continuing.{joined, is_nil}
 use Rattle.proto_model.proofs.texts.pieces.put_members.Given as goal

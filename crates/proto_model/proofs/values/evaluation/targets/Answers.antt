@@ -1,20 +1,20 @@
 -- The set of the targets so far is below the bit of the next remote.
 use Rattle.std.proofs.Common.{◌≡◌, ℕ, ◌<◌, true, false, sym, ap, ◌∙◌, arith}
-use Rattle.proto_model.specs.NodeSets.{has_node, nodes_below}
+use Rattle.proto_model.specs.NumberSets.{has_number, numbers_below}
 use Rattle.proto_model.specs.Values.{may_meet}
-use Rattle.proto_model.proofs.NodeBits.{nodes_below-none, nodes_below-with, nodes_below-without}
-use Rattle.proto_model.proofs.NodeBits.{nodes_below-room, bit-small, has_node-nodes_below}
+use Rattle.proto_model.proofs.NumberBits.{numbers_below-none, numbers_below-with, numbers_below-without}
+use Rattle.proto_model.proofs.NumberBits.{numbers_below-room, bit-small, has_number-numbers_below}
 use Rattle.proto_model.proofs.values.evaluation.targets.Goals as goal
 use Rattle.proto_model.proofs.values.evaluation.targets.Goals.{then-is_target, else-is_target}
 
 pub loop-node-init : goal.loop-node-init
-loop-node-init c = sym (nodes_below-none (may_meet c.args.vars.now c.args.rule.now.kind))
+loop-node-init c = sym (numbers_below-none (may_meet c.args.vars.now c.args.rule.now.kind))
 
 pub overflow_add-set : goal.overflow_add-set
 overflow_add-set c =
     let test = may_meet c.args.vars.now c.args.rule.now.kind in
     let small : c.loop-node.node < 64 = omega arith in
-    let room = nodes_below-room test c.loop-node.node small in
+    let room = numbers_below-room test c.loop-node.node small in
     let bit = bit-small c.loop-node.node small in
     omega (arith, room, bit, c.loop-node.invariant)
 
@@ -26,15 +26,15 @@ loop-node-preserved c =
     elim c.if-is_target.branch [
       | then-is_target w ↦
           let is : test c.loop-node.node ≡ true = cc in
-          omega (arith, nodes_below-with test c.loop-node.node is, bit, w.set-is, c.loop-node.invariant)
+          omega (arith, numbers_below-with test c.loop-node.node is, bit, w.set-is, c.loop-node.invariant)
       | else-is_target w ↦
           let is : test c.loop-node.node ≡ false = cc in
-          omega (arith, nodes_below-without test c.loop-node.node is, w.set-is, c.loop-node.invariant)
+          omega (arith, numbers_below-without test c.loop-node.node is, w.set-is, c.loop-node.invariant)
     ]
 
 pub returns-clause-members : goal.returns-clause-members
 returns-clause-members c = λ j.
     let test = may_meet c.args.vars.now c.args.rule.now.kind in
     let whole : c.loop-node.node ≡ c.args.n = omega arith in
-    let set = c.loop-node.invariant ∙ ap (nodes_below test) whole in
-    ap (λ (s : ℕ). has_node s j) set ∙ has_node-nodes_below test c.args.n j
+    let set = c.loop-node.invariant ∙ ap (numbers_below test) whole in
+    ap (λ (s : ℕ). has_number s j) set ∙ has_number-numbers_below test c.args.n j

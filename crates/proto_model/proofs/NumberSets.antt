@@ -8,13 +8,13 @@ use Rattle.std.proofs.lemmas.Nat.Bits.{bit_at_or, and_pow, bit_at-pow_same, bit_
 use Rattle.std.proofs.lemmas.Nat.Bits.{bit_at-lt}
 use Rattle.std.proofs.lemmas.Bool.{cases_eq, eq-eqb, ne_eqb, eqb-true, lt-ltb}
 use Rattle.std.proofs.Math.Nat.{add-div_right, zero-mul}
-use Rattle.proto_model.specs.NodeSets.{has_node, with_node, without_node}
-use Rattle.proto_model.proofs.NodeBits.{pow-le-set}
+use Rattle.proto_model.specs.NumberSets.{has_number, with_number, without_number}
+use Rattle.proto_model.proofs.NumberBits.{pow-le-set}
 
 -- ---- one more
 
-has_node-or : (set j i : ℕ) → has_node (bit_or set (2 ^ j)) i ≡ ((i == j) || has_node set i)
-has_node-or set j i =
+has_number-or : (set j i : ℕ) → has_number (bit_or set (2 ^ j)) i ≡ ((i == j) || has_number set i)
+has_number-or set j i =
     elim (cases_eq i j) [
       | inl same ↦
           let new : bit_at (2 ^ j) i ≡ 1 = ap (bit_at (2 ^ j)) same ∙ bit_at-pow_same j in
@@ -27,14 +27,14 @@ has_node-or set j i =
           rw (bit_at_or set (2 ^ j) i, new, all, ne_eqb i j other) refl
     ]
 
-pub has_node-with : (set j i : ℕ) → j < 64
-    → has_node (with_node set j) i ≡ ((i == j) || has_node set i)
-has_node-with set j i small = rw (lt-ltb j 64 small) (has_node-or set j i)
+pub has_number-with : (set j i : ℕ) → j < 64
+    → has_number (with_number set j) i ≡ ((i == j) || has_number set i)
+has_number-with set j i small = rw (lt-ltb j 64 small) (has_number-or set j i)
 
 -- ---- one less
 
 -- The set is its rest and the bit of the remote, which the rest doesn't have.
-rest-has_not : (set j : ℕ) → has_node set j ≡ true → bit_at (set - 2 ^ j) j ≡ 0
+rest-has_not : (set j : ℕ) → has_number set j ≡ true → bit_at (set - 2 ^ j) j ≡ 0
 rest-has_not set j has =
     let fits = pow-le-set set j has in
     let back : set - 2 ^ j + 2 ^ j ≡ set = omega arith in
@@ -45,7 +45,7 @@ rest-has_not set j has =
     let odd : set / 2 ^ j % 2 ≡ 1 = eqb-true (bit_at set j) 1 has in
     omega (arith, quotient, odd)
 
-rest-or : (set j : ℕ) → has_node set j ≡ true → bit_or (set - 2 ^ j) (2 ^ j) ≡ set
+rest-or : (set j : ℕ) → has_number set j ≡ true → bit_or (set - 2 ^ j) (2 ^ j) ≡ set
 rest-or set j has =
     let fits = pow-le-set set j has in
     let none : bit_and (set - 2 ^ j) (2 ^ j) ≡ 0 =
@@ -54,32 +54,32 @@ rest-or set j has =
     let back : set - 2 ^ j + 2 ^ j ≡ set = omega arith in
     or_disjoint (set - 2 ^ j) (2 ^ j) none ∙ back
 
-has_node-rest : (set j i : ℕ) → has_node set j ≡ true
-    → has_node (set - 2 ^ j) i ≡ (not (i == j) && has_node set i)
-has_node-rest set j i has =
+has_number-rest : (set j i : ℕ) → has_number set j ≡ true
+    → has_number (set - 2 ^ j) i ≡ (not (i == j) && has_number set i)
+has_number-rest set j i has =
     elim (cases_eq i j) [
       | inl same ↦
           let none : bit_at (set - 2 ^ j) i ≡ 0 =
           ap (bit_at (set - 2 ^ j)) same ∙ rest-has_not set j has in
           rw (none, eq-eqb i j same) refl
       | inr other ↦
-          let all : has_node set i ≡ ((i == j) || has_node (set - 2 ^ j) i) =
-          ap (λ (n : ℕ). has_node n i) (sym (rest-or set j has)) ∙ has_node-or (set - 2 ^ j) j i in
+          let all : has_number set i ≡ ((i == j) || has_number (set - 2 ^ j) i) =
+          ap (λ (n : ℕ). has_number n i) (sym (rest-or set j has)) ∙ has_number-or (set - 2 ^ j) j i in
           rw (all, ne_eqb i j other) refl
     ]
 
-kept : (set j i : ℕ) → has_node set j ≡ false → has_node set i ≡ (not (i == j) && has_node set i)
+kept : (set j i : ℕ) → has_number set j ≡ false → has_number set i ≡ (not (i == j) && has_number set i)
 kept set j i absent =
     elim (cases_eq i j) [
       | inl same ↦ rw (same, absent, eq-eqb j j refl) refl
       | inr other ↦ rw (ne_eqb i j other) refl
     ]
 
-pub has_node-without : (set j i : ℕ)
-    → has_node (without_node set j) i ≡ (not (i == j) && has_node set i)
-has_node-without set j i = by (has_node set j) refl
+pub has_number-without : (set j i : ℕ)
+    → has_number (without_number set j) i ≡ (not (i == j) && has_number set i)
+has_number-without set j i = by (has_number set j) refl
   where
-    by : (b : Bool) → has_node set j ≡ b
-        → has_node (cond b (set - 2 ^ j) set) i ≡ (not (i == j) && has_node set i)
-    by true has = has_node-rest set j i has
+    by : (b : Bool) → has_number set j ≡ b
+        → has_number (cond b (set - 2 ^ j) set) i ≡ (not (i == j) && has_number set i)
+    by true has = has_number-rest set j i has
     by false absent = kept set j i absent

@@ -1,7 +1,7 @@
 -- Once memory ran out nothing more is appended.
 use Rattle.std.proofs.Common.{◌≡◌, true, is_err}
 use Rattle.proto_model.proofs.Continuing.{Continues-stopped}
-use Rattle.proto_model.proofs.appending.put.Goals as goal
+use Rattle.proto_model.proofs.appending.append.Goals as goal
 
 pub returns-then-is_err : goal.returns-then-is_err
 returns-then-is_err c =
