@@ -1,3 +1,3 @@
 pub mod Taken
 pub mod States
-pub mod ClaimsMean
+pub mod BrokenClaims

@@ -4,7 +4,7 @@ ghost use Rattle.std.specs.Prelude.{◌≡◌, ◌↔◌, ℕ, List, Some, None}
 ghost use Rattle.proto_model.specs.Numbered.{NumberedProtocol};
 ghost use Rattle.proto_model.specs.Rendezvous.{RvStep};
 ghost use Rattle.proto_model.specs.RendezvousNext.{rv_next};
-ghost use Rattle.proto_model.specs.declared.numbered.RuleClaim.{RuleClaim};
+ghost use Rattle.proto_model.specs.declared.numbered.NumberedClaim.{NumberedClaim};
 ghost use Rattle.proto_model.specs.declared.rendezvous.Event.{Event};
 ghost use Rattle.proto_model.specs.declared.rendezvous.RvConfig.{RvConfig};
 ghost use Rattle.rendezvous_meaning.specs.Claims.{broken, AllHold, IsFirstBroken};
@@ -17,11 +17,11 @@ pub fn next_is_the_step()
         → ((rv_next protocol config event ≡ Some next) ↔ RvStep protocol config event next) }
 {}
 
-/// No claim is told as broken exactly where each says what is so, remote by remote. The claim that
-/// is told says what isn't so, and each claim before it what is.
-pub fn claims_mean()
-    ensures none { (claims : List RuleClaim) (states : List ℕ)
+/// The claim that is told as broken is the first that doesn't hold, by what claims say of the
+/// remotes one by one: each claim before it holds. None is told exactly where every claim holds.
+pub fn a_broken_claim_is_the_first_that_does_not_hold()
+    ensures none { (claims : List NumberedClaim) (states : List ℕ)
         → ((broken claims states ≡ None) ↔ AllHold claims states) }
-    ensures first { (claims : List RuleClaim) (states : List ℕ) (number : ℕ)
+    ensures first { (claims : List NumberedClaim) (states : List ℕ) (number : ℕ)
         → ((broken claims states ≡ Some number) ↔ IsFirstBroken claims states number) }
 {}

@@ -7,8 +7,8 @@
 //! - `moves`: where the processes that an event names stand after it.
 //! - `machine`: the machine, which stands in a configuration of its protocol at each moment.
 //! - `claims`: which claim of a protocol is broken where its remotes stand.
-//! - `laws`: that the step as a relation and the step as it is computed are the same, and that a
-//!   claim is broken where it says what isn't so.
+//! - `laws`: that the step as a relation and the step as it is computed are the same, and that the
+//!   claim told as broken is the first whose words, remote by remote, aren't so.
 //!
 //! What a step is, as a relation between two configurations, is defined in `proto_model`.
 #![tactic(auto)]
@@ -18,6 +18,6 @@ mod laws;
 mod machine;
 mod moves;
 
-pub use claims::broken;
-pub use laws::{claims_mean, next_is_the_step};
+pub use claims::{InState, broken, broken_among};
+pub use laws::{a_broken_claim_is_the_first_that_does_not_hold, next_is_the_step};
 pub use machine::RvMachine;

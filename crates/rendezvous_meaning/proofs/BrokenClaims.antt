@@ -10,8 +10,8 @@ use Rattle.std.proofs.lemmas.Option.{same_Some}
 use Rattle.std.specs.List.{position_from}
 use Rattle.std.specs.Prelude.{◌==◌, ◌||◌, nat_le, if◌then◌else◌}
 use Rattle.std.specs.declared.option.Option.{Option}
-use Rattle.proto_model.specs.declared.numbered.RuleClaim.{RuleClaim}
-use Rattle.proto_model.specs.declared.numbered.RuleClaim.TheVariants as claim
+use Rattle.proto_model.specs.declared.numbered.NumberedClaim.{NumberedClaim}
+use Rattle.proto_model.specs.declared.numbered.NumberedClaim.TheVariants as claim
 use Rattle.rendezvous_meaning.specs.Claims.{count_in, count_at, holds, broken, Holds}
 use Rattle.rendezvous_meaning.specs.Claims.{AllHold, IsFirstBroken}
 use Rattle.rendezvous_meaning.proofs.States.{one-from, two-from, from-one, from-two}
@@ -91,29 +91,29 @@ holds-apart false x y states e apart =
 
 -- ---- one claim
 
-pub holds-means : (c : RuleClaim) (states : List ℕ) → holds c states ≡ true → Holds c states
+pub holds-means : (c : NumberedClaim) (states : List ℕ) → holds c states ≡ true → Holds c states
 holds-means (claim.AtMost most set) states computed = true-le (count_in set states) most computed
 holds-means (claim.Apart x y) states computed = apart-holds (x == y) x y states refl computed
 
-pub means-holds : (c : RuleClaim) (states : List ℕ) → Holds c states → holds c states ≡ true
+pub means-holds : (c : NumberedClaim) (states : List ℕ) → Holds c states → holds c states ≡ true
 means-holds (claim.AtMost most set) states meant = le-true (count_in set states) most meant
 means-holds (claim.Apart x y) states meant = holds-apart (x == y) x y states refl meant
 
-fails-means : (c : RuleClaim) (states : List ℕ) → holds c states ≡ false → Holds c states → ⊥
+fails-means : (c : NumberedClaim) (states : List ℕ) → holds c states ≡ false → Holds c states → ⊥
 fails-means c states computed meant = let other = means-holds c states meant in absurd (cc)
 
 -- ---- the first claim that is broken
 
-abbrev broken_from : ℕ → List RuleClaim → List ℕ → Option ℕ
+abbrev broken_from : ℕ → List NumberedClaim → List ℕ → Option ℕ
 broken_from first claims states = position_from (λ c. not (holds c states)) first claims
 
 -- the number of the first broken claim, where the claims count from this number
-pub record Found (first : ℕ) (claims : List RuleClaim) (states : List ℕ) (number : ℕ) : Type 0 where
+pub record Found (first : ℕ) (claims : List NumberedClaim) (states : List ℕ) (number : ℕ) : Type 0 where
   pub place : ℕ
   pub number_is : number ≡ first + place
   pub found : IsFirstBroken claims states place
 
-none-means : (first : ℕ) (claims : List RuleClaim) (states : List ℕ)
+none-means : (first : ℕ) (claims : List NumberedClaim) (states : List ℕ)
     → broken_from first claims states ≡ None → AllHold claims states
 none-means first [] states none = tt
 none-means first (c ∷ claims) states none =
@@ -126,13 +126,13 @@ none-means first (c ∷ claims) states none =
     by true is none later = (holds-means c states is, later none)
     by false is none later = absurd (cc)
 
-means-none : (first : ℕ) (claims : List RuleClaim) (states : List ℕ) → AllHold claims states
+means-none : (first : ℕ) (claims : List NumberedClaim) (states : List ℕ) → AllHold claims states
     → broken_from first claims states ≡ None
 means-none first [] states all = refl
 means-none first (c ∷ claims) states all =
     rw (means-holds c states all.0) (means-none (first + 1) claims states all.1)
 
-first-means : (first : ℕ) (claims : List RuleClaim) (states : List ℕ) (number : ℕ)
+first-means : (first : ℕ) (claims : List NumberedClaim) (states : List ℕ) (number : ℕ)
     → broken_from first claims states ≡ Some number → Found first claims states number
 first-means first [] states number told = absurd (cc)
 first-means first (c ∷ claims) states number told =
@@ -168,14 +168,14 @@ first-means first (c ∷ claims) states number told =
           };
         }
 
-fails-false : (c : RuleClaim) (states : List ℕ) → (Holds c states → ⊥) → holds c states ≡ false
+fails-false : (c : NumberedClaim) (states : List ℕ) → (Holds c states → ⊥) → holds c states ≡ false
 fails-false c states fails = by (holds c states) refl
   where
     by : (b : Bool) → holds c states ≡ b → b ≡ false
     by true is = absurd (fails (holds-means c states is))
     by false is = refl
 
-means-first : (first : ℕ) (claims : List RuleClaim) (states : List ℕ) (place : ℕ)
+means-first : (first : ℕ) (claims : List NumberedClaim) (states : List ℕ) (place : ℕ)
     → IsFirstBroken claims states place → broken_from first claims states ≡ Some (first + place)
 means-first first [] states place h = let there = h.there in absurd (cc)
 means-first first (c ∷ claims) states zero h =
@@ -194,27 +194,27 @@ means-first first (c ∷ claims) states (suc place) h =
       before = h.before.1;
     }) ∙ ap Some at)
 
-from-start : (claims : List RuleClaim) (states : List ℕ)
+from-start : (claims : List NumberedClaim) (states : List ℕ)
     → broken claims states ≡ broken_from 0 claims states
 from-start claims states = position_from-zero (λ c. not (holds c states)) claims
 
-pub broken-none : (claims : List RuleClaim) (states : List ℕ) → broken claims states ≡ None
+pub broken-none : (claims : List NumberedClaim) (states : List ℕ) → broken claims states ≡ None
     → AllHold claims states
 broken-none claims states none =
     none-means 0 claims states (sym (from-start claims states) ∙ none)
 
-pub none-broken : (claims : List RuleClaim) (states : List ℕ) → AllHold claims states
+pub none-broken : (claims : List NumberedClaim) (states : List ℕ) → AllHold claims states
     → broken claims states ≡ None
 none-broken claims states all = from-start claims states ∙ means-none 0 claims states all
 
-pub broken-first : (claims : List RuleClaim) (states : List ℕ) (number : ℕ)
+pub broken-first : (claims : List NumberedClaim) (states : List ℕ) (number : ℕ)
     → broken claims states ≡ Some number → IsFirstBroken claims states number
 broken-first claims states number told =
     let more = first-means 0 claims states number (sym (from-start claims states) ∙ told) in
     let same : more.place ≡ number = omega (arith, more.number_is) in
     subst (IsFirstBroken claims states) same more.found
 
-pub first-broken : (claims : List RuleClaim) (states : List ℕ) (number : ℕ)
+pub first-broken : (claims : List NumberedClaim) (states : List ℕ) (number : ℕ)
     → IsFirstBroken claims states number → broken claims states ≡ Some number
 first-broken claims states number h =
     let at : 0 + number ≡ number = omega arith in
