@@ -2,7 +2,8 @@
 use Rattle.std.proofs.Common.{◌≡◌, ℕ, List, [], ◌∷◌, ◌++◌, Bool, true, false, refl, sym, ◌∙◌, ap}
 use Rattle.std.proofs.Common.{append_assoc}
 use Rattle.std.specs.Prelude.{◌||◌, ◌==◌}
-use Rattle.schedule_replay.specs.Lines.{lines_of, closed_lines, has_lf, open_part, HasNoLf, joined}
+use Rattle.schedule_replay.specs.TextLines.{lines_of, closed_lines, has_lf, open_part, HasNoLf}
+use Rattle.schedule_replay.specs.TextLines.{joined}
 use Rattle.schedule_replay.proofs.LinesOf.{no-lf, HasNoLf-first, HasNoLf-rest, lines_of-closed}
 
 -- no line holds an LF

@@ -1,5 +1,5 @@
 -- What a replay answers and has written, once what was kept and the last text are.
-use Rattle.std.proofs.Common.{◌≡◌, ◌⊎◌, ℕ, List, ◌++◌, length, take, drop, Bool, true, false}
+use Rattle.std.proofs.Common.{◌≡◌, ◌⊎◌, ℕ, List, [], ◌++◌, length, take, drop, true, false}
 use Rattle.std.proofs.Common.{Some, None, inl, inr, refl, sym, ◌∙◌, ap, subst, append_assoc}
 use Rattle.std.proofs.lemmas.List.{append-nil, take-append-drop}
 use Rattle.std.proofs.Math.Seq.{take-append_seam}
@@ -11,7 +11,7 @@ use Rattle.schedule_replay.specs.Play.{Play}
 use Rattle.schedule_replay.specs.Played.{Stop, AtEnd, AtLine, TooMany, Halted, last_text}
 use Rattle.schedule_replay.specs.Played.{played_text, trace}
 use Rattle.schedule_replay.specs.Replayed.{answer_of, blocks_taken}
-use Rattle.schedule_replay.specs.Replayed.{Wrote, WroteFront, WritesSo, is_decided}
+use Rattle.schedule_replay.specs.Replayed.{WroteText, WroteFront, WritesSo, is_decided}
 use Rattle.schedule_replay.specs.Turns.{PutsFront, last_of, EndsWith, Ending, Cut, PlaysLines}
 use Rattle.schedule_replay.specs.declared.limits.Limits.{Limits}
 use Rattle.schedule_replay.specs.declared.replaying.Replayed.{Replayed}
@@ -29,7 +29,7 @@ IfSome-map (Some bytes) P Q then holds = then bytes refl holds
 
 -- what is written after bytes that are told
 wrote-told : (before now : Option (List ℕ)) (bytes text : List ℕ) → now ≡ append_known before text
-    → before ≡ Some bytes → Wrote bytes text now
+    → before ≡ Some bytes → WroteText bytes text now
 wrote-told before now bytes text wrote told = wrote ∙ ap (λ known. append_known known text) told
 
 front-told : (before now : Option (List ℕ)) (bytes text front rest : List ℕ)
@@ -42,14 +42,6 @@ front-told before now bytes text front rest wrote told same = (
       (sym (ap (take (length front)) same ∙ take-append_seam front rest)),
 )
 
--- a sink on which all went well, twice
-pub went-on : {O : Type 0} (refused : O → Bool) (old mid new : O)
-    → (mid ≡ old) ⊎ (refused mid ≡ false) → (new ≡ mid) ⊎ (refused new ≡ false)
-    → (new ≡ old) ⊎ (refused new ≡ false)
-went-on refused old mid new first (inr went) = inr went
-went-on refused old mid new (inl same) (inl then) = inl (then ∙ same)
-went-on refused old mid new (inr went) (inl then) = inr (ap refused then ∙ went)
-
 module _ {State Item : Type 0} (play : Play State Item) where
   last-of : (state : State) (stop : Stop) → last_of play state (answer_of stop)
       ≡ last_text play state stop
@@ -57,6 +49,16 @@ module _ {State Item : Type 0} (play : Play State Item) where
   last-of state (AtLine number) = refl
   last-of state TooMany = refl
   last-of state (Halted lines claim) = refl
+
+  -- what is written where the machine halts at the start: nothing was kept or written before
+  pub ends-at-start : (claim : ℕ) (answer result : Replayed) (start state : State)
+      (before mid after : Option (List ℕ)) (kept : List ℕ) → answer ≡ ClaimBroken claim
+      → state ≡ start → mid ≡ before → kept ≡ []
+      → EndsWith play answer (kept ++ last_of play state answer) mid after result
+      → EndsWith play (ClaimBroken claim) (last_of play start (ClaimBroken claim)) before after
+      result
+  ends-at-start claim answer result start state before mid after kept broken stays same none ends =
+      rw (broken, stays, same, none) at ends
 
   module _ (limits : Limits) (start : State) where
     ending-of : (answer : Replayed) (text : List ℕ) (left before now : Option (List ℕ))
@@ -72,7 +74,7 @@ module _ {State Item : Type 0} (play : Play State Item) where
     ending-of NoMemory text left before now kept state decided ends = absurd (cc)
 
     wrote-writes : (stop : Stop) (text : List ℕ) (left : Option (List ℕ)) (bytes : List ℕ)
-        (now : Option (List ℕ)) → Wrote bytes (trace play limits start text) now
+        (now : Option (List ℕ)) → WroteText bytes (trace play limits start text) now
         → WritesSo play limits start text left bytes now (answer_of stop)
     wrote-writes AtEnd text left bytes now wrote = wrote
     wrote-writes (AtLine number) text left bytes now wrote = wrote
@@ -99,7 +101,7 @@ module _ {State Item : Type 0} (play : Play State Item) where
         → WritesSo play limits start text left bytes after answer
     Ending-wrote answer text left before now after kept state bytes h told wrote =
         let last = kept ++ last_of play state answer in
-        let all : Wrote bytes (trace play limits start text) after =
+        let all : WroteText bytes (trace play limits start text) after =
         wrote-told before after bytes (h.gone ++ last) (wrote
         ∙ (ap (λ known. append_known known last) h.written
         ∙ append_known-append before h.gone last)) told

@@ -1,3 +1,4 @@
+pub mod Chained
 pub mod Taking
 pub mod Further
 pub mod LinesTurns

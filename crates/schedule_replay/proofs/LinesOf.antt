@@ -3,7 +3,7 @@ use Rattle.std.proofs.Common.{◌≡◌, ◌≢◌, ℕ, suc, ◌<◌, ◌≤◌
 use Rattle.std.proofs.Common.{false, arith, refl, ap}
 use Rattle.std.proofs.lemmas.Grind.{common_steps}
 use Rattle.std.specs.Prelude.{◌==◌}
-use Rattle.schedule_replay.specs.Lines.{lines_of, onto_line, HasNoLf}
+use Rattle.schedule_replay.specs.TextLines.{lines_of, onto_line, HasNoLf}
 
 pub no-lf : (b : ℕ) → b ≢ 10 → (b == 10) ≡ false
 no-lf b n = grind (arith, common_steps)

@@ -12,8 +12,8 @@ use Rattle.std.specs.Io.KnownBytes.{prepend_known, IsAtEnd}
 use Rattle.std.proofs.KnownBytes.{prepend_known-nil}
 use Rattle.rv_base.proofs.Moved.{prepend_known-append}
 use Rattle.rv_base.specs.Whole.{TakesAtMost}
-use Rattle.schedule_replay.specs.Limits.{most_taken}
-use Rattle.schedule_replay.specs.Lines.{lines_of, HasNoLf, joined}
+use Rattle.schedule_replay.specs.ScheduleLimits.{most_taken}
+use Rattle.schedule_replay.specs.TextLines.{lines_of, HasNoLf, joined}
 use Rattle.schedule_replay.specs.Reading.{Reading, nothing_read}
 use Rattle.schedule_replay.specs.NextLine.{Took, Closes, GetsLine, FindsEnd, FindsLong, FindsMany}
 use Rattle.schedule_replay.specs.NextLine.{Breaks, Lacks}
@@ -105,7 +105,7 @@ module _ (limits : Limits) where
   Spent taken now r done = Goes taken r done ⊎ Over taken now r done
 
   -- those lines were got so far
-  pub record Reads (before now : Option (List ℕ)) (r : Reading) (done : List (List ℕ))
+  pub record HasRead (before now : Option (List ℕ)) (r : Reading) (done : List (List ℕ))
       : Type 0 where
     pub taken : List ℕ
     pub from : before ≡ prepend_known taken now
@@ -115,8 +115,8 @@ module _ (limits : Limits) where
     pub short : length r.ahead ≤ 255
     pub size : length taken ≤ (limits.line + 1) * r.got + length r.ahead
 
-  pub Reads-start : (before : Option (List ℕ)) → Reads before before (nothing_read limits) []
-  Reads-start before = record {
+  pub HasRead-start : (before : Option (List ℕ)) → HasRead before before (nothing_read limits) []
+  HasRead-start before = record {
     taken = [];
     from = sym (prepend_known-nil before);
     spent = inl record { goes = refl; each = tt; bytes = refl };
@@ -158,10 +158,10 @@ module _ (limits : Limits) where
       }
 
   -- a line was got
-  pub Reads-more : {before now after : Option (List ℕ)} {r new : Reading} {done : List (List ℕ)}
-      {number : ℕ} → Reads before now r done → GetsLine limits r new now after number
-      → Reads before after new (done ++ new.text ∷ [])
-  Reads-more {before} {now} {after} {r} {new} {done} {number} h gets =
+  pub HasRead-more : {before now after : Option (List ℕ)} {r new : Reading} {done : List (List ℕ)}
+      {number : ℕ} → HasRead before now r done → GetsLine limits r new now after number
+      → HasRead before after new (done ++ new.text ∷ [])
+  HasRead-more {before} {now} {after} {r} {new} {done} {number} h gets =
       let front = closed-front r new now after gets.closed in
       let count : new.got ≡ r.got + 1 = gets.counted ∙ gets.number_is in
       record {
@@ -184,16 +184,16 @@ module _ (limits : Limits) where
       }
 
   -- few bytes were taken so far
-  pub Reads-few : {before now : Option (List ℕ)} {r : Reading} {done : List (List ℕ)}
-      → Reads before now r done → TakesAtMost (most_taken limits) before now
-  Reads-few {before} {now} {r} {done} h = (
+  pub HasRead-few : {before now : Option (List ℕ)} {r : Reading} {done : List (List ℕ)}
+      → HasRead before now r done → TakesAtMost (most_taken limits) before now
+  HasRead-few {before} {now} {r} {done} h = (
     h.taken,
     omega (arith, h.size, h.short, times-most (limits.line + 1) r.got limits.lines h.limit),
     h.from,
   )
 
   few-more : (before now after : Option (List ℕ)) (r : Reading) (done : List (List ℕ))
-      (front : List ℕ) (ahead : ℕ) → Reads before now r done → now ≡ prepend_known front after
+      (front : List ℕ) (ahead : ℕ) → HasRead before now r done → now ≡ prepend_known front after
       → length r.ahead + length front ≡ ahead
       → (limits.line + 1) * r.got + ahead ≤ most_taken limits
       → TakesAtMost (most_taken limits) before after
@@ -228,7 +228,7 @@ module _ (limits : Limits) where
   )
 
   pub long-few : {before now after : Option (List ℕ)} {r new : Reading} {done : List (List ℕ)}
-      {number : ℕ} → Reads before now r done → FindsLong limits r new now after number
+      {number : ℕ} → HasRead before now r done → FindsLong limits r new now after number
       → TakesAtMost (most_taken limits) before after
   long-few {before} {now} {after} {r} {new} {done} h finds =
       few-more before now after r done finds.taken.front (length new.ahead) h finds.taken.taken
@@ -243,7 +243,7 @@ module _ (limits : Limits) where
       )))
 
   pub many-few : {before now after : Option (List ℕ)} {r new : Reading} {done : List (List ℕ)}
-      → Reads before now r done → FindsMany limits r new now after
+      → HasRead before now r done → FindsMany limits r new now after
       → TakesAtMost (most_taken limits) before after
   many-few {before} {now} {after} {r} {new} {done} h finds =
       few-more before now after r done finds.taken.front (length new.ahead) h finds.taken.taken
@@ -259,7 +259,7 @@ module _ (limits : Limits) where
   ]
 
   pub broken-few : {before now after : Option (List ℕ)} {r new : Reading} {done : List (List ℕ)}
-      → Reads before now r done → Breaks limits r new now after
+      → HasRead before now r done → Breaks limits r new now after
       → TakesAtMost (most_taken limits) before after
   broken-few {before} {now} {after} {r} {new} {done} h breaks =
       few-more before now after r done breaks.taken.front (length new.ahead) h breaks.taken.taken
@@ -268,7 +268,7 @@ module _ (limits : Limits) where
       (λ full. omega (arith, ap length (breaks.none_past full))))
 
   pub lacks-few : {before now after : Option (List ℕ)} {r : Reading} {done : List (List ℕ)}
-      → Reads before now r done → Lacks limits r now after
+      → HasRead before now r done → Lacks limits r now after
       → TakesAtMost (most_taken limits) before after
   lacks-few {before} {now} {after} {r} {done} h lacks =
       few-more before now after r done lacks.front (length r.ahead + length lacks.front)
@@ -300,10 +300,10 @@ module _ (limits : Limits) where
   )
 
   -- the first lines of the whole text are those that were got
-  pub Reads-front : {before now : Option (List ℕ)} {r : Reading} {done : List (List ℕ)}
-      (text : List ℕ) → Reads before now r done → before ≡ Some text
+  pub HasRead-front : {before now : Option (List ℕ)} {r : Reading} {done : List (List ℕ)}
+      (text : List ℕ) → HasRead before now r done → before ≡ Some text
       → (more : List (List ℕ)) × (lines_of text ≡ done ++ more)
-  Reads-front {before} {now} {r} {done} text h told =
+  HasRead-front {before} {now} {r} {done} text h told =
       let left = told-rest before now h.taken text h.from told in
       front-of now r done text h.taken left.0 left.1 left.2 h.spent
 
@@ -329,10 +329,10 @@ module _ (limits : Limits) where
       )
 
   -- the source came to its end: those are all lines
-  pub Reads-end : {before now after : Option (List ℕ)} {r new : Reading} {done : List (List ℕ)}
-      (text : List ℕ) → Reads before now r done → FindsEnd r new now after → before ≡ Some text
+  pub HasRead-end : {before now after : Option (List ℕ)} {r new : Reading} {done : List (List ℕ)}
+      (text : List ℕ) → HasRead before now r done → FindsEnd r new now after → before ≡ Some text
       → (lines_of text ≡ done) × (after ≡ Some [])
-  Reads-end {before} {now} {after} {r} {new} {done} text h finds told =
+  HasRead-end {before} {now} {after} {r} {new} {done} text h finds told =
       let left = told-rest before now h.taken text h.from told in
       end-of now after r done text h.taken left.0 left.1 left.2 h.spent finds.none_taken
       finds.none_ahead finds.at_end
@@ -403,13 +403,13 @@ module _ (limits : Limits) where
       (taken, rest, same, told, rw place (omega (arith, size, over.fits)), λ few. none)
 
   -- a line was got at which the schedule ends: few bytes past it were taken
-  pub Reads-refused : {before now : Option (List ℕ)} {r : Reading} (done : List (List ℕ))
-      (line text : List ℕ) (number : ℕ) → Reads before now r (done ++ line ∷ [])
+  pub HasRead-refused : {before now : Option (List ℕ)} {r : Reading} (done : List (List ℕ))
+      (line text : List ℕ) (number : ℕ) → HasRead before now r (done ++ line ∷ [])
       → length line ≤ limits.line → number ≡ length done + 1 → before ≡ Some text
       → TakesFew (line_decides limits number text) text now
-  Reads-refused {before} {now} {r} done line text number h fits n told =
+  HasRead-refused {before} {now} {r} done line text number h fits n told =
       let left = told-rest before now h.taken text h.from told in
-      let front = Reads-front text h told in
+      let front = HasRead-front text h told in
       refused-few now r done line text h.taken left.0 front.0 number left.1 left.2 front.1 h.short
       fits n h.spent
 
@@ -424,11 +424,11 @@ module _ (limits : Limits) where
     pub within : length done < limits.lines
     pub few : TakesFew (line_decides limits number text) text after
 
-  pub Reads-long : {before now after : Option (List ℕ)} {r new : Reading} {done : List (List ℕ)}
-      {number : ℕ} (text : List ℕ) → Reads before now r done
+  pub HasRead-long : {before now after : Option (List ℕ)} {r new : Reading} {done : List (List ℕ)}
+      {number : ℕ} (text : List ℕ) → HasRead before now r done
       → FindsLong limits r new now after number → before ≡ Some text
       → ReadsLong done text number after
-  Reads-long {before} {now} {after} {r} {new} {done} {number} text h finds told =
+  HasRead-long {before} {now} {after} {r} {new} {done} {number} text h finds told =
       let going = is-going h.taken now r done h.spent finds.goes in
       let taken = h.taken ++ finds.taken.front in
       let left = told-rest before after taken text
@@ -489,10 +489,10 @@ module _ (limits : Limits) where
     pub full : length done ≡ limits.lines
     pub few : TakesFew (count_decides limits text) text after
 
-  pub Reads-many : {before now after : Option (List ℕ)} {r new : Reading} {done : List (List ℕ)}
-      (text : List ℕ) → Reads before now r done → FindsMany limits r new now after
+  pub HasRead-many : {before now after : Option (List ℕ)} {r new : Reading} {done : List (List ℕ)}
+      (text : List ℕ) → HasRead before now r done → FindsMany limits r new now after
       → before ≡ Some text → ReadsMany done text after
-  Reads-many {before} {now} {after} {r} {new} {done} text h finds told =
+  HasRead-many {before} {now} {after} {r} {new} {done} text h finds told =
       let going = is-going h.taken now r done h.spent finds.goes in
       let taken = h.taken ++ finds.taken.front in
       let left = told-rest before after taken text
@@ -544,10 +544,11 @@ module _ (limits : Limits) where
     pub fits : length part ≤ limits.line
     pub none_past : length done ≡ limits.lines → part ≡ []
 
-  pub Reads-broken : {before now after : Option (List ℕ)} {r new : Reading} {done : List (List ℕ)}
-      (text : List ℕ) → Reads before now r done → Breaks limits r new now after → before ≡ Some text
+  pub HasRead-broken : {before now after : Option (List ℕ)} {r new : Reading} {done : List (List ℕ)}
+      (text : List ℕ) → HasRead before now r done → Breaks limits r new now after
+      → before ≡ Some text
       → ReadsBroken done text after
-  Reads-broken {before} {now} {after} {r} {new} {done} text h breaks told =
+  HasRead-broken {before} {now} {after} {r} {new} {done} text h breaks told =
       let going = is-going h.taken now r done h.spent breaks.goes in
       let left = told-rest before after (h.taken ++ breaks.taken.front) text
       (from-more before now after h.taken breaks.taken.front h.from breaks.taken.taken) told in

@@ -15,7 +15,7 @@ use Rattle.std.specs.List.{position, position_or_len}
 use Rattle.std.specs.declared.option.Option.{Option}
 use Rattle.std.specs.Io.KnownBytes.{prepend_known}
 use Rattle.std.proofs.KnownBytes.{prepend_known-nil}
-use Rattle.schedule_replay.specs.Lines.{HasNoLf, is_lf}
+use Rattle.schedule_replay.specs.TextLines.{HasNoLf, is_lf}
 use Rattle.schedule_replay.specs.Reading.{Reading}
 use Rattle.schedule_replay.specs.NextLine.{Took, GetsLine, FindsLong}
 use Rattle.schedule_replay.specs.NextLine.{Lacks, NextMoves, Waits, AtHandMoves}
@@ -24,6 +24,7 @@ use Rattle.schedule_replay.specs.AtHand.{Opens, Carries, HandMoves, SameLine}
 use Rattle.schedule_replay.specs.AtHand.{TurnMoves}
 use Rattle.schedule_replay.specs.declared.limits.Limits.{Limits}
 use Rattle.schedule_replay.specs.declared.line_buffer.LineBuffer.{LineBuffer}
+use Rattle.schedule_replay.specs.declared.line_buffer.Held.TheVariants.{Nothing}
 use Rattle.schedule_replay.specs.declared.lines.NextLine.{NextLine}
 use Rattle.schedule_replay.proofs.Taking.{Took-none, Took-behind, Took-same}
 use Rattle.schedule_replay.proofs.Further.{NextMoves-after}
@@ -99,8 +100,8 @@ rest-between piece start end k =
     let same : start + k + 1 ≡ start + (k + 1) = omega arith in
     ap (λ n. drop n (take end piece)) same ∙ sym (drop-drop (k + 1) start (take end piece))
 
-part-here : (l : LineBuffer) → l.partial ≡ true → part_of l ≡ l.part.items
-part-here l partial = rw partial refl
+part-here : (l : LineBuffer) → l.held ≡ Nothing → part_of l ≡ l.part.items
+part-here l vacant = rw vacant refl
 
 going-or : (ended : Bool) (start end : ℕ) → (ended ≡ true → start ≡ end) → start < end
     → ended ≡ false
@@ -110,27 +111,27 @@ going-or false start end spent some = refl
 pub going : (l : LineBuffer) → l.start < l.end → l.ended ≡ false
 going l some = going-or l.ended l.start l.end l.none_pending some
 
-ahead-length : (l : LineBuffer) → l.partial ≡ true → length (ahead_of l) ≡ length l.part.items +
+ahead-length : (l : LineBuffer) → l.held ≡ Nothing → length (ahead_of l) ≡ length l.part.items +
     (l.end - l.start)
-ahead-length l partial = omega (
+ahead-length l vacant = omega (
   arith,
   length-append (part_of l) (pending l),
-  ap length (part-here l partial),
+  ap length (part-here l vacant),
   pending-length l,
 )
 
-ahead-fits : (l : LineBuffer) → l.partial ≡ true → length (ahead_of l) ≤ l.limits.line + 256
-ahead-fits l partial = omega (arith, ahead-length l partial, l.fits partial, l.within)
+ahead-fits : (l : LineBuffer) → l.held ≡ Nothing → length (ahead_of l) ≤ l.limits.line + 256
+ahead-fits l vacant = omega (arith, ahead-length l vacant, l.fits vacant, l.within)
 
-part-clean : (l : LineBuffer) → l.partial ≡ true → HasNoLf (part_of l)
-part-clean l partial = subst HasNoLf (sym (part-here l partial)) (l.one_line partial)
+part-clean : (l : LineBuffer) → l.held ≡ Nothing → HasNoLf (part_of l)
+part-clean l vacant = subst HasNoLf (sym (part-here l vacant)) (l.one_line vacant)
 
 -- The bytes ahead begin with more than a line may have, and none of these is an LF.
-long : (l : LineBuffer) (clean rest : List ℕ) (known : Option (List ℕ)) → l.partial ≡ true
+long : (l : LineBuffer) (clean rest : List ℕ) (known : Option (List ℕ)) → l.held ≡ Nothing
     → l.start < l.end → l.got < l.limits.lines → ahead_of l ≡ clean ++ rest → HasNoLf clean
     → l.limits.line < length clean
     → FindsLong l.limits (reading_of l) (reading_of l) known known (l.got + 1)
-long l clean rest known partial some few ahead none more =
+long l clean rest known vacant some few ahead none more =
     let size = l.limits.line + 1 in
     let parts : ahead_of l ≡ take size clean ++ (drop size clean ++ rest) =
     ahead ∙ (ap (λ front. front ++ rest) (sym (take-append-drop size clean))
@@ -151,69 +152,71 @@ long l clean rest known partial some few ahead none more =
         length-append (take size clean)
             (drop size clean ++ rest),
         full,
-        ahead-fits l partial,
+        ahead-fits l vacant,
       );
       taken = Took-none known known (ahead_of l) refl;
     }
 
 -- the line whose LF is pending is too long
-pub long-closed : (l : LineBuffer) (k : ℕ) (known : Option (List ℕ)) → l.partial ≡ true
+pub long-closed : (l : LineBuffer) (k : ℕ) (known : Option (List ℕ)) → l.held ≡ Nothing
     → l.got < l.limits.lines → position is_lf (pending l) ≡ Some k
     → l.limits.line < length l.part.items + k
     → FindsLong l.limits (reading_of l) (reading_of l) known known (l.got + 1)
-long-closed l k known partial few found more =
+long-closed l k known vacant few found more =
     let first = position-Some is_lf (pending l) k 0 found in
     let some : l.start < l.end = omega (arith, first.0, pending-length l) in
     let ahead : ahead_of l ≡ (part_of l ++ take k (pending l)) ++ drop k (pending l) =
     ap (λ bytes. part_of l ++ bytes) (sym (take-append-drop k (pending l)))
     ∙ sym (append_assoc (part_of l) (take k (pending l)) (drop k (pending l))) in
-    long l (part_of l ++ take k (pending l)) (drop k (pending l)) known partial some few ahead
-    (All-append (λ b. b ≢ 10) (part_of l) (take k (pending l)) (part-clean l partial)
+    long l (part_of l ++ take k (pending l)) (drop k (pending l)) known vacant some few ahead
+    (All-append (λ b. b ≢ 10) (part_of l) (take k (pending l)) (part-clean l vacant)
     (before-lf (pending l) k found))
     (omega (
       arith,
       length-append (part_of l) (take k (pending l)),
-      ap length (part-here l partial),
+      ap length (part-here l vacant),
       length-take k (pending l),
       first.0,
       more,
     ))
 
 -- the line at hand is too long
-pub long-open : (l : LineBuffer) (known : Option (List ℕ)) → l.partial ≡ true → l.got < l.limits.lines
+pub long-open : (l : LineBuffer) (known : Option (List ℕ)) → l.held ≡ Nothing
+    → l.got < l.limits.lines
     → l.start < l.end → position is_lf (pending l) ≡ None
     → l.limits.line < length l.part.items + (l.end - l.start)
     → FindsLong l.limits (reading_of l) (reading_of l) known known (l.got + 1)
-long-open l known partial few some none more =
-    long l (ahead_of l) [] known partial some few (sym (append-nil (ahead_of l)))
-    (All-append (λ b. b ≢ 10) (part_of l) (pending l) (part-clean l partial)
+long-open l known vacant few some none more =
+    long l (ahead_of l) [] known vacant some few (sym (append-nil (ahead_of l)))
+    (All-append (λ b. b ≢ 10) (part_of l) (pending l) (part-clean l vacant)
     (no-lf-inside (pending l) none))
-    (omega (arith, ahead-length l partial, more))
+    (omega (arith, ahead-length l vacant, more))
 
 -- there is no memory
-pub lacks : (l : LineBuffer) (known : Option (List ℕ)) → l.partial ≡ true
+pub lacks : (l : LineBuffer) (known : Option (List ℕ)) → l.held ≡ Nothing
     → (l.got ≡ l.limits.lines → length (ahead_of l) ≤ 256)
     → Lacks l.limits (reading_of l) known known
-lacks l known partial none_past = record {
+lacks l known vacant none_past = record {
   front = [];
   taken = sym (prepend_known-nil known);
-  few = omega (arith, ahead-fits l partial);
+  few = omega (arith, ahead-fits l vacant);
   none_past = λ full. let most = none_past full in omega (arith, most);
 }
 
-pub lacks-before : (l : LineBuffer) (known : Option (List ℕ)) → l.partial ≡ true → l.got < l.limits.lines
+pub lacks-before : (l : LineBuffer) (known : Option (List ℕ)) → l.held ≡ Nothing
+    → l.got < l.limits.lines
     → Lacks l.limits (reading_of l) known known
-lacks-before l known partial few = lacks l known partial (λ full. absurd (omega (arith, full, few)))
+lacks-before l known vacant few = lacks l known vacant (λ full. absurd (omega (arith, full, few)))
 
 -- the line whose LF is pending was got
-pub gets : (old : LineBuffer) (new : Reading) (k : ℕ) (known : Option (List ℕ)) → old.partial ≡ true
+pub gets : (old : LineBuffer) (new : Reading) (k : ℕ) (known : Option (List ℕ)) → old.held ≡ Nothing
     → old.got < old.limits.lines → position is_lf (pending old) ≡ Some k
     → length old.part.items + k ≤ old.limits.line
     → new.text ≡ part_of old ++ drop old.start (take (old.start + k) old.piece)
     → new.ahead ≡ drop (old.start + k + 1) (take old.end old.piece) → new.got ≡ old.got + 1
     → new.ended ≡ old.ended
     → GetsLine old.limits (reading_of old) new known known new.got
-gets old new k known partial few found fits text pend got ended =
+gets old new k known vacant few found fits text pend got ended =
     let first = position-Some is_lf (pending old) k 0 found in
     let within : old.start + k ≤ old.end = omega (arith, first.0, pending-length old) in
     let goes = going old (omega (arith, first.0, pending-length old)) in
@@ -232,12 +235,12 @@ gets old new k known partial few found fits text pend got ended =
       counted = refl;
       within = omega (arith, got, few);
       one_line = subst HasNoLf (sym line) (All-append (λ b. b ≢ 10) (part_of old)
-          (take k (pending old)) (part-clean old partial) (before-lf (pending old) k found));
+          (take k (pending old)) (part-clean old vacant) (before-lf (pending old) k found));
       fits = omega (
         arith,
         ap length line,
         length-append (part_of old) (take k (pending old)),
-        ap length (part-here old partial),
+        ap length (part-here old vacant),
         length-take k (pending old),
         fits,
       );
@@ -262,7 +265,8 @@ opened-ahead old mid opens = ap (λ part. part ++ pending mid) opens.part
     refl)
 
 -- what is said later
-pub later-moves : (old mid new : LineBuffer) (before between after : Option (List ℕ)) (answer : NextLine)
+pub later-moves : (old mid new : LineBuffer) (before between after : Option (List ℕ))
+    (answer : NextLine)
     → Took before between (ahead_of old) (ahead_of mid) → SameCount old mid
     → NextMoves mid.limits (reading_of mid) (reading_of new) between after answer
     → NextMoves old.limits (reading_of old) (reading_of new) before after answer
@@ -289,7 +293,7 @@ opened-hand old mid new None opens carries = record {
     got = carries.count.got ∙ opens.count.got;
     ended = carries.count.ended ∙ opens.count.ended;
   };
-  partial = carries.partial;
+  vacant = carries.vacant;
   spent = carries.spent;
   ahead = carries.ahead ∙ opened-ahead old mid opens;
 }
@@ -299,15 +303,16 @@ pub spent-ahead : (l : LineBuffer) → l.start ≡ l.end → ahead_of l ≡ part
 spent-ahead l spent = ap (λ bytes. part_of l ++ bytes) (pending-none l spent)
     ∙ append-nil (part_of l)
 
-pub below-limit : (l : LineBuffer) → l.partial ≡ true → 0 < length l.part.items
+pub below-limit : (l : LineBuffer) → l.held ≡ Nothing → 0 < length l.part.items
     → l.got + 1 ≤ l.limits.lines
-below-limit l partial some = elim (cases_lt l.got l.limits.lines) [
+below-limit l vacant some = elim (cases_lt l.got l.limits.lines) [
   | inl low ↦ omega (arith, low)
   | inr high ↦ let full : l.got ≡ l.limits.lines = omega (arith, high, l.counted) in
-      absurd (omega (arith, ap length (l.none_past partial full), some))
+      absurd (omega (arith, ap length (l.none_past vacant full), some))
 ]
 
-same-part : (old mid : LineBuffer) → SameLine old mid → old.start ≡ old.end → ahead_of old ≡ part_of mid
+same-part : (old mid : LineBuffer) → SameLine old mid → old.start ≡ old.end
+    → ahead_of old ≡ part_of mid
 same-part old mid same spent = spent-ahead old spent ∙ sym same.part
 
 -- bytes were taken
@@ -331,7 +336,8 @@ longer old mid same spent some =
     )
 
 -- what is said after a read
-pub then-moves : (old mid new : LineBuffer) (before after : Option (List ℕ)) (answer : Option NextLine)
+pub then-moves : (old mid new : LineBuffer) (before after : Option (List ℕ))
+    (answer : Option NextLine)
     → SameLine old mid → old.start ≡ old.end → mid.start < mid.end
     → Took before after [] (pending mid) → HandMoves mid new answer
     → TurnMoves old new before after answer
@@ -347,7 +353,7 @@ then-moves old mid new before after None same spent some took carries = record {
     got = carries.count.got ∙ same.count.got;
     ended = carries.count.ended ∙ same.count.ended;
   };
-  partial = carries.partial;
+  vacant = carries.vacant;
   spent = carries.spent;
   taken = subst (λ (bytes : List ℕ). Took before after (ahead_of old) bytes) (sym carries.ahead)
       (filled old mid before after same spent took);
@@ -357,32 +363,33 @@ then-moves old mid new before after None same spent some took carries = record {
 
 -- the source had no memory
 pub then-lacks : (old mid : LineBuffer) (before after : Option (List ℕ)) → SameLine old mid
-    → old.start ≡ old.end → old.partial ≡ true → after ≡ before
+    → old.start ≡ old.end → old.held ≡ Nothing → after ≡ before
     → Lacks old.limits (reading_of old) before after
-then-lacks old mid before after same spent partial stays =
+then-lacks old mid before after same spent vacant stays =
     let ahead = spent-ahead old spent in
     record {
       front = [];
       taken = sym (prepend_known-nil before) ∙ ap (prepend_known []) (sym stays);
-      few = omega (arith, ahead-fits old partial);
+      few = omega (arith, ahead-fits old vacant);
       none_past = λ full. let none : length old.part.items ≡ 0 =
-          ap length (old.none_past partial full) in omega
-          (arith, ap length ahead, ap length (part-here old partial), none);
+          ap length (old.none_past vacant full) in omega
+          (arith, ap length ahead, ap length (part-here old vacant), none);
     }
 
 -- the bytes at hand were kept, as contracts see it
-pub Carries-waits : (old new : LineBuffer) → Carries old new → Waits (reading_of old) (reading_of new)
+pub Carries-waits : (old new : LineBuffer) → Carries old new
+    → Waits (reading_of old) (reading_of new)
 Carries-waits old new carries =
     let ahead : ahead_of new ≡ new.part.items = spent-ahead new carries.spent
-    ∙ part-here new carries.partial in
+    ∙ part-here new carries.vacant in
     record {
       limits = carries.count.limits;
       got = carries.count.got;
       ended = carries.count.ended;
       ahead = carries.ahead;
-      one_line = subst HasNoLf (sym ahead) (new.one_line carries.partial);
-      few = omega (arith, ap length ahead, new.fits carries.partial);
-      none_past = λ full. ahead ∙ new.none_past carries.partial full;
+      one_line = subst HasNoLf (sym ahead) (new.one_line carries.vacant);
+      few = omega (arith, ap length ahead, new.fits carries.vacant);
+      none_past = λ full. ahead ∙ new.none_past carries.vacant full;
     }
 
 -- what the bytes at hand decide, as contracts see it
@@ -392,9 +399,9 @@ hand-moves old new (Some answer) moves = moves
 hand-moves old new None carries = Carries-waits old new carries
 
 -- the bytes that are kept hold no LF
-pub kept-clean : (l : LineBuffer) → l.partial ≡ true → position is_lf (pending l) ≡ None
+pub kept-clean : (l : LineBuffer) → l.held ≡ Nothing → position is_lf (pending l) ≡ None
     → HasNoLf (l.part.items ++ pending l)
-kept-clean l partial none = All-append (λ b. b ≢ 10) l.part.items (pending l) (l.one_line partial)
+kept-clean l vacant none = All-append (λ b. b ≢ 10) l.part.items (pending l) (l.one_line vacant)
     (no-lf-inside (pending l) none)
 
 -- a call that went well

@@ -7,7 +7,7 @@ use Rattle.std.proofs.lemmas.List.{append-nil, take-append-drop}
 use Rattle.std.specs.declared.option.Option.{Option}
 use Rattle.std.specs.Io.KnownBytes.{append_known}
 use Rattle.rv_base.proofs.Moved.{append_known-append}
-use Rattle.schedule_replay.specs.Lines.{lines_of}
+use Rattle.schedule_replay.specs.TextLines.{lines_of}
 use Rattle.schedule_replay.specs.Play.{Play}
 use Rattle.schedule_replay.specs.Played.{Stop, AtEnd, AtLine, TooMany, Halted, Played, stopped}
 use Rattle.schedule_replay.specs.Played.{behind, unless_halted, numbered_block, line_then}

@@ -7,8 +7,8 @@ use Rattle.std.specs.Prelude.{IfSome}
 use Rattle.std.specs.declared.option.Option.{Option}
 use Rattle.std.specs.Io.KnownBytes.{append_known}
 use Rattle.rv_base.specs.Whole.{TakesAtMost}
-use Rattle.schedule_replay.specs.Limits.{most_taken}
-use Rattle.schedule_replay.specs.Lines.{lines_of, closed_lines, open_part, joined}
+use Rattle.schedule_replay.specs.ScheduleLimits.{most_taken}
+use Rattle.schedule_replay.specs.TextLines.{lines_of, closed_lines, open_part, joined}
 use Rattle.schedule_replay.specs.Reading.{Reading}
 use Rattle.schedule_replay.specs.NextLine.{GetsLine, FindsEnd, FindsLong, FindsMany, Breaks}
 use Rattle.schedule_replay.specs.Play.{Play}
@@ -25,9 +25,11 @@ use Rattle.schedule_replay.specs.declared.replaying.Replayed.TheVariants.{TooMan
 use Rattle.schedule_replay.specs.declared.replaying.Replayed.TheVariants.{ReadFault, WriteFault}
 use Rattle.schedule_replay.specs.declared.replaying.Replayed.TheVariants.{NoMemory}
 use Rattle.schedule_replay.proofs.ClosedLines.{closed_lines-joined, open_part-joined}
-use Rattle.schedule_replay.proofs.LinesSoFar.{Reads, Reads-more, Reads-front, Reads-refused}
-use Rattle.schedule_replay.proofs.LinesSoFar.{Reads-end, Reads-long, Reads-many, Reads-broken}
-use Rattle.schedule_replay.proofs.LinesSoFar.{Reads-few, long-few, many-few, broken-few, lacks-few}
+use Rattle.schedule_replay.proofs.LinesSoFar.{HasRead, HasRead-more, HasRead-front, HasRead-refused}
+use Rattle.schedule_replay.proofs.LinesSoFar.{HasRead-end, HasRead-long, HasRead-many}
+use Rattle.schedule_replay.proofs.LinesSoFar.{HasRead-broken}
+use Rattle.schedule_replay.proofs.LinesSoFar.{HasRead-few, long-few, many-few, broken-few}
+use Rattle.schedule_replay.proofs.LinesSoFar.{lacks-few}
 use Rattle.schedule_replay.proofs.PlayedSoFar.{Plays, Ends, Ends-start, Ends-item, Ends-bad}
 use Rattle.schedule_replay.proofs.PlayedSoFar.{Ends-long, Ends-many, Ends-whole, Plays-blank}
 use Rattle.schedule_replay.proofs.PlayedSoFar.{Plays-item, Plays-asked, Plays-cut, puts-none}
@@ -54,16 +56,16 @@ ends-within limits most old new before after answer same ends =
 -- A line was got after those that were read.
 pub record GotLine (limits : Limits) (left after : Option (List ℕ)) (new : Reading)
     (done : List (List ℕ)) (number : ℕ) : Type 0 where
-  pub reads : Reads limits left after new (done ++ new.text ∷ [])
+  pub reads : HasRead limits left after new (done ++ new.text ∷ [])
   pub few : length done < limits.lines
   pub fits : length new.text ≤ limits.line
   pub number_is : number ≡ length done + 1
 
 pub got : {limits : Limits} {left now after : Option (List ℕ)} {r new : Reading}
-    {done : List (List ℕ)} {number : ℕ} → Reads limits left now r done
+    {done : List (List ℕ)} {number : ℕ} → HasRead limits left now r done
     → GetsLine limits r new now after number → GotLine limits left after new done number
 got {limits} {left} {now} {after} {r} {new} {done} {number} reads gets = record {
-  reads = Reads-more limits reads gets;
+  reads = HasRead-more limits reads gets;
   few = omega (arith, gets.number_is, gets.within, reads.got);
   fits = gets.fits;
   number_is = gets.number_is ∙ ap (λ n. n + 1) (sym reads.got);
@@ -108,13 +110,13 @@ module _ {State Item : Type 0} (play : Play State Item) (limits : Limits) (start
       IfSome-from left (λ text. PlaysLines play limits start text after before now held then
       (ClaimBroken claim))
       (λ text told.
-      let front = Reads-front limits text line.reads told in
+      let front = HasRead-front limits text line.reads told in
       let next : length done + 1 ≡ suc (length done) = omega arith in
       let ends = subst (λ n. Ends play limits start before now held then
       ((done ++ new.text ∷ []) ++ front.0) (Halted n claim)) next
       (rw (tells, moved) (Ends-item play limits start before now kept state count done new.text item
       claim plays line.few line.fits says (ap play.halts (sym moved) ∙ halts) front.0)) in
-      ending front.1 ends (Reads-refused limits done new.text text (suc (length done))
+      ending front.1 ends (HasRead-refused limits done new.text text (suc (length done))
       line.reads line.fits (sym next) told))
 
   pub bad-line : {left after before now : Option (List ℕ)} {new : Reading} {kept : List ℕ}
@@ -126,24 +128,24 @@ module _ {State Item : Type 0} (play : Play State Item) (limits : Limits) (start
       {count} line plays says = IfSome-from left (λ text.
       PlaysLines play limits start text after before now kept state (BadLine number))
       (λ text told.
-      let front = Reads-front limits text line.reads told in
+      let front = HasRead-front limits text line.reads told in
       let ends = subst (λ n. Ends play limits start before now kept state
       ((done ++ new.text ∷ []) ++ front.0) (AtLine n)) (sym line.number_is)
       (Ends-bad play limits start before now kept state count done new.text plays line.few line.fits
       says front.0) in
-      ending front.1 ends (Reads-refused limits done new.text text number line.reads line.fits
+      ending front.1 ends (HasRead-refused limits done new.text text number line.reads line.fits
       line.number_is told))
 
   pub long-line : {left now after before written : Option (List ℕ)} {r new : Reading}
       {kept : List ℕ} {state : State} {done : List (List ℕ)} {number count : ℕ}
-      → Reads limits left now r done → FindsLong limits r new now after number
+      → HasRead limits left now r done → FindsLong limits r new now after number
       → Plays play limits start before written kept state count done
       → Owes left after before written kept state (BadLine number)
   long-line {left} {now} {after} {before} {written} {r} {new} {kept} {state} {done} {number}
       {count} reads finds plays = IfSome-from left (λ text.
       PlaysLines play limits start text after before written kept state (BadLine number))
       (λ text told.
-      let long = Reads-long limits text reads finds told in
+      let long = HasRead-long limits text reads finds told in
       let ends = subst (λ n. Ends play limits start before written kept state
       (done ++ long.first ∷ long.more) (AtLine n)) (sym long.number_is)
       (Ends-long play limits start before written kept state count done long.first long.more plays
@@ -152,40 +154,40 @@ module _ {State Item : Type 0} (play : Play State Item) (limits : Limits) (start
 
   pub many-lines : {left now after before written : Option (List ℕ)} {r new : Reading}
       {kept : List ℕ} {state : State} {done : List (List ℕ)} {count : ℕ}
-      → Reads limits left now r done → FindsMany limits r new now after
+      → HasRead limits left now r done → FindsMany limits r new now after
       → Plays play limits start before written kept state count done
       → Owes left after before written kept state TooManyLines
   many-lines {left} {now} {after} {before} {written} {r} {new} {kept} {state} {done}
       {count} reads finds plays = IfSome-from left (λ text.
       PlaysLines play limits start text after before written kept state TooManyLines)
       (λ text told.
-      let many = Reads-many limits text reads finds told in
+      let many = HasRead-many limits text reads finds told in
       ending many.lines (Ends-many play limits start before written kept state count done many.first
       many.more plays many.full) many.few)
 
   pub all-lines : {left now after before written : Option (List ℕ)} {r new : Reading}
       {kept : List ℕ} {state : State} {done : List (List ℕ)} {count : ℕ}
-      → Reads limits left now r done → FindsEnd r new now after
+      → HasRead limits left now r done → FindsEnd r new now after
       → Plays play limits start before written kept state count done
       → Owes left after before written kept state Done
   all-lines {left} {now} {after} {before} {written} {r} {new} {kept} {state} {done}
       {count} reads finds plays = IfSome-from left (λ text.
       PlaysLines play limits start text after before written kept state Done)
       (λ text told.
-      let end = Reads-end limits text reads finds told in
+      let end = HasRead-end limits text reads finds told in
       ending end.0 (Ends-whole play limits start before written kept state count done plays) end.1)
 
   -- the source gave no more, and all that was kept is written
   pub broken-off : {left now after before written : Option (List ℕ)} {r new : Reading}
       {kept : List ℕ} {state : State} {done : List (List ℕ)} {count : ℕ}
-      → Reads limits left now r done → Breaks limits r new now after
+      → HasRead limits left now r done → Breaks limits r new now after
       → Plays play limits start before written kept state count done → kept ≡ []
       → Owes left after before written kept state ReadFault
   broken-off {left} {now} {after} {before} {written} {r} {new} {kept} {state} {done}
       {count} reads breaks plays none = IfSome-from left
       (λ text. PlaysLines play limits start text after before written kept state ReadFault)
       (λ text told.
-      let broken = Reads-broken limits text reads breaks told in
+      let broken = HasRead-broken limits text reads breaks told in
       let closed : closed_lines (joined done ++ broken.part) ≡ done =
       closed_lines-joined done broken.part broken.each broken.one_line in
       let part : open_part (joined done ++ broken.part) ≡ broken.part =
@@ -210,13 +212,13 @@ module _ {State Item : Type 0} (play : Play State Item) (limits : Limits) (start
 
   -- a front of what is kept was written
   cut : {left now before written after : Option (List ℕ)} {r : Reading} {kept : List ℕ}
-      {state : State} {done : List (List ℕ)} {count : ℕ} → Reads limits left now r done
+      {state : State} {done : List (List ℕ)} {count : ℕ} → HasRead limits left now r done
       → Plays play limits start before written kept state count done → PutsFront written kept after
       → IfSome left (λ text. Cut play limits start text before after)
   cut {left} {now} {before} {written} {after} {r} {kept} {state} {done} {count} reads plays puts =
       IfSome-from left (λ text. Cut play limits start text before after)
       (λ text told.
-      let front = Reads-front limits text reads told in
+      let front = HasRead-front limits text reads told in
       Plays-cut play limits start before written after kept state count done front.0 text plays
       front.1 puts)
 
@@ -228,14 +230,14 @@ module _ {State Item : Type 0} (play : Play State Item) (limits : Limits) (start
   line-cut {left} {after} {before} {written} {new} {kept} {state} {done} {number}
       {count} line plays = IfSome-from left (λ text. Cut play limits start text before written)
       (λ text told.
-      let front = Reads-front limits text line.reads told in
+      let front = HasRead-front limits text line.reads told in
       Plays-cut play limits start before written written kept state count done (new.text ∷ front.0)
       text plays (front.1 ∙ append_assoc done (new.text ∷ []) front.0) (puts-none written kept))
 
   -- there is no further line
   pub ask-owes : {left now before written : Option (List ℕ)} {r : Reading} {kept : List ℕ}
       {state : State} {done : List (List ℕ)} {count : ℕ} (after wrote : Option (List ℕ))
-      (new : Reading) (held : List ℕ) (answer : Replayed) → Reads limits left now r done
+      (new : Reading) (held : List ℕ) (answer : Replayed) → HasRead limits left now r done
       → AskEnds limits r new now after answer
       → Plays play limits start before written kept state count done
       → AskKeeps kept held written wrote answer → Owes left after before wrote held state answer
@@ -293,14 +295,14 @@ module _ {State Item : Type 0} (play : Play State Item) (limits : Limits) (start
 
 -- few bytes were taken
 still-few : (limits : Limits) (left now after : Option (List ℕ)) (r : Reading)
-    (done : List (List ℕ)) → Reads limits left now r done → after ≡ now
+    (done : List (List ℕ)) → HasRead limits left now r done → after ≡ now
     → TakesAtMost (most_taken limits) left after
 still-few limits left now after r done reads stays =
     subst (λ (known : Option (List ℕ)). TakesAtMost (most_taken limits) left known) (sym stays)
-    (Reads-few limits reads)
+    (HasRead-few limits reads)
 
 pub ask-few : {limits : Limits} {left now : Option (List ℕ)} {r : Reading} {done : List (List ℕ)}
-    (after : Option (List ℕ)) (new : Reading) (answer : Replayed) → Reads limits left now r done
+    (after : Option (List ℕ)) (new : Reading) (answer : Replayed) → HasRead limits left now r done
     → AskEnds limits r new now after answer → TakesAtMost (most_taken limits) left after
 ask-few {limits} {left} {now} {r} {done} after new Done reads finds =
     still-few limits left now after r done reads finds.none_taken

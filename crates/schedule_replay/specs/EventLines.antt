@@ -8,8 +8,8 @@ use Rattle.proto_model.specs.Tokens.{Text, IsNumber}
 use Rattle.proto_model.specs.Texts.{event_words}
 use Rattle.proto_model.specs.declared.rendezvous.Event.{Event}
 use Rattle.proto_model.specs.declared.rendezvous.Event.TheVariants as event
-use Rattle.schedule_replay.specs.declared.events.EventLine.{EventLine}
-use Rattle.schedule_replay.specs.declared.events.EventLine.TheVariants as line
+use Rattle.schedule_replay.specs.declared.player.Meaning.{Meaning}
+use Rattle.schedule_replay.specs.declared.player.Meaning.TheVariants as meaning
 
 -- Each number of the event is one that a line can write: its decimal text has at most five digits.
 abbrev pub HasNumbers : Event → Type 0
@@ -19,31 +19,33 @@ HasNumbers (event.Up j h r) = IsNumber j × IsNumber h × IsNumber r
 HasNumbers (event.Down j h r) = IsNumber j × IsNumber h × IsNumber r
 
 -- What the words of a line say. A line without words is blank. A line says an event where its words
--- are those of the event, whose numbers are ones that a line can write. Each other line is malformed.
-abbrev pub Says : List Text → EventLine → Type 0
-Says ws line.Blank = ws ≡ []
-Says ws (line.Event e) = (ws ≡ event_words e) × HasNumbers e
-Says ws line.Bad = (ws ≢ []) × ((e : Event) → HasNumbers e → ws ≢ event_words e)
+-- are those of the event, whose numbers are ones that a line can write. Each other line is
+-- malformed.
+abbrev pub Says : List Text → Meaning Event → Type 0
+Says ws meaning.Blank = ws ≡ []
+Says ws (meaning.Says e) = (ws ≡ event_words e) × HasNumbers e
+Says ws meaning.Bad = (ws ≢ []) × ((e : Event) → HasNumbers e → ws ≢ event_words e)
 
 -- The number from 0 to 99,999 whose decimal text the word is.
 abbrev pub number : Text → Option ℕ
 number word = number_of word 99999
 
 -- The event of `tau` and these two words: the home, or the remote with this number, takes the local
--- step of the rule with this number.
+-- step of the guard with this number.
 abbrev pub tau_event : Text → Text → Option Event
 tau_event who g =
     if bytes_eq who (codes "home")
     then option_map (λ rule. event.TauHome rule) (number g)
     else option_and_then (λ j. option_map (λ rule. event.TauRemote j rule) (number g)) (number who)
 
--- The event of this name, `up` or `down`, in which these two rules of the home and of this remote meet.
+-- The event of this name, `up` or `down`, in which these two guards of the home and of this remote
+-- meet.
 abbrev pub meeting : Text → ℕ → ℕ → ℕ → Option Event
 meeting name j h r =
     if bytes_eq name (codes "up") then Some (event.Up j h r)
     else (if bytes_eq name (codes "down") then Some (event.Down j h r) else None)
 
--- The event of `up` or `down` and these three words: the numbers of the remote, of the home's rule
+-- The event of `up` or `down` and these three words: the numbers of the remote, of the home's guard
 -- and of the remote's.
 abbrev pub meeting_event : Text → Text → Text → Text → Option Event
 meeting_event name j h r =
@@ -61,15 +63,15 @@ event_of (name ∷ second ∷ third ∷ fourth ∷ []) = meeting_event name seco
 event_of (name ∷ second ∷ third ∷ fourth ∷ w ∷ ws) = None
 
 -- What a line with words says: this event, or it is malformed.
-abbrev pub said : Option Event → EventLine
-said (Some e) = line.Event e
-said None = line.Bad
+abbrev pub said : Option Event → Meaning Event
+said (Some e) = meaning.Says e
+said None = meaning.Bad
 
 -- What a line says, by its words.
-abbrev pub line_of_words : List Text → EventLine
-line_of_words [] = line.Blank
+abbrev pub line_of_words : List Text → Meaning Event
+line_of_words [] = meaning.Blank
 line_of_words (w ∷ ws) = said (event_of (w ∷ ws))
 
 -- What the line says, computed.
-abbrev pub event_line : List ℕ → EventLine
+abbrev pub event_line : List ℕ → Meaning Event
 event_line bytes = line_of_words (words bytes)

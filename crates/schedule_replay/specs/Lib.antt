@@ -1,10 +1,10 @@
-pub mod Limits
-pub mod Lines
+pub mod ScheduleLimits
+pub mod TextLines
 pub mod Reading
 pub mod NextLine
 pub mod AtHand
 pub mod EventLines
-pub mod RvTrace
+pub mod RvPlay
 pub mod Play
 pub mod Played
 pub mod Replayed

@@ -3,7 +3,7 @@ use Rattle.std.specs.Prelude.{◌≡◌, ◌⊎◌, ℕ, ◌+◌, ◌<◌, ◌�
 use Rattle.std.specs.Prelude.{false, Some, None}
 use Rattle.std.specs.declared.option.Option.{Option}
 use Rattle.std.specs.Io.KnownBytes.{prepend_known, IsAtEnd}
-use Rattle.schedule_replay.specs.Lines.{HasNoLf}
+use Rattle.schedule_replay.specs.TextLines.{HasNoLf}
 use Rattle.schedule_replay.specs.Reading.{Reading}
 use Rattle.schedule_replay.specs.declared.limits.Limits.{Limits}
 use Rattle.schedule_replay.specs.declared.lines.NextLine.{NextLine}
@@ -103,22 +103,22 @@ module _ (limits : Limits) where
   NextMoves old new before after NoMemory = Lacks old before after
 
 -- A read failed.
-abbrev pub is_fault : NextLine → Bool
-is_fault (Got number) = false
-is_fault End = false
-is_fault (TooLong number) = false
-is_fault TooMany = false
-is_fault ReadFault = true
-is_fault NoMemory = false
+abbrev pub next_failed : NextLine → Bool
+next_failed (Got number) = false
+next_failed End = false
+next_failed (TooLong number) = false
+next_failed TooMany = false
+next_failed ReadFault = true
+next_failed NoMemory = false
 
--- No read failed, and memory didn't lack.
-abbrev pub is_well : NextLine → Bool
-is_well (Got number) = true
-is_well End = true
-is_well (TooLong number) = true
-is_well TooMany = true
-is_well ReadFault = false
-is_well NoMemory = false
+-- There was no memory, of the source's or for the line.
+abbrev pub next_wants : NextLine → Bool
+next_wants (Got number) = false
+next_wants End = false
+next_wants (TooLong number) = false
+next_wants TooMany = false
+next_wants ReadFault = false
+next_wants NoMemory = true
 
 -- The bytes taken so far don't decide what comes next, and are kept: they hold no LF, and are no
 -- more than a line may have. Where as many lines as there may be were got, there are none.
@@ -136,6 +136,6 @@ pub record Waits (old new : Reading) : Type 0 where
 -- decide.
 abbrev pub AtHandMoves : Reading → Reading → Option NextLine → Type 0
 AtHandMoves old new (Some answer) =
-    (is_fault answer ≡ false) × (new.limits ≡ old.limits) × (new.ended ≡ old.ended)
+    (next_failed answer ≡ false) × (new.limits ≡ old.limits) × (new.ended ≡ old.ended)
     × ((known : Option (List ℕ)) → NextMoves old.limits old new known known answer)
 AtHandMoves old new None = Waits old new

@@ -1,7 +1,7 @@
 -- A schedule, played line by line: what is written of it, and where it ends.
 use Rattle.std.specs.Prelude.{ℕ, ◌+◌, Bool, true, false, nat_le, nat_lt, List, [], ◌∷◌, ◌++◌}
 use Rattle.std.specs.Prelude.{length, Option, Some, None, codes, decimal}
-use Rattle.schedule_replay.specs.Lines.{lines_of}
+use Rattle.schedule_replay.specs.TextLines.{lines_of}
 use Rattle.schedule_replay.specs.Play.{Play}
 use Rattle.schedule_replay.specs.declared.limits.Limits.{Limits}
 use Rattle.schedule_replay.specs.declared.player.Meaning.{Meaning}

@@ -2,8 +2,8 @@
 use Rattle.std.specs.Prelude.{◌≡◌, ◌≤◌, ◌<◌, ℕ, ◌+◌, ◌-◌, zero, suc, min, Bool, true, false, List}
 use Rattle.std.specs.Prelude.{[], ◌++◌, length, take, Some, get_or}
 use Rattle.std.specs.declared.option.Option.{Option}
-use Rattle.rv_base.specs.Outside.{RisesWhere}
-use Rattle.schedule_replay.specs.Lines.{lines_of, closed_lines, open_part, joined}
+use Rattle.rv_base.specs.Outside.{RisesWhere, MayRise}
+use Rattle.schedule_replay.specs.TextLines.{lines_of, closed_lines, open_part, joined}
 use Rattle.schedule_replay.specs.Play.{Play}
 use Rattle.schedule_replay.specs.Played.{Stop, AtEnd, AtLine, TooMany, Halted, played, played_from}
 use Rattle.schedule_replay.specs.Played.{trace}
@@ -22,12 +22,12 @@ answer_of TooMany = TooManyLines
 answer_of (Halted lines claim) = ClaimBroken claim
 
 -- The text follows what was written before.
-abbrev pub Wrote : List ℕ → List ℕ → Option (List ℕ) → Type 0
-Wrote before text now = now ≡ Some (before ++ text)
+abbrev pub WroteText : List ℕ → List ℕ → Option (List ℕ) → Type 0
+WroteText before text now = now ≡ Some (before ++ text)
 
 -- A front of the text follows what was written before.
 abbrev pub WroteFront : List ℕ → List ℕ → Option (List ℕ) → Type 0
-WroteFront before text now = (count : ℕ) × Wrote before (take count text) now
+WroteFront before text now = (count : ℕ) × WroteText before (take count text) now
 
 -- At most 255 bytes past the deciding one were taken, and all bytes where there is no such byte.
 abbrev pub TakesFew : ℕ → List ℕ → Option (List ℕ) → Type 0
@@ -99,35 +99,46 @@ module _ {State Item : Type 0} (play : Play State Item) (limits : Limits) (start
   -- After a read fault exactly the blocks of the lines whose LF was taken are written; after a
   -- write fault or want of memory a front of what would have been written.
   abbrev pub WritesSo : List ℕ → Option (List ℕ) → List ℕ → Option (List ℕ) → Replayed → Type 0
-  WritesSo text left before now Done = Wrote before (trace play limits start text) now
-  WritesSo text left before now (BadLine number) = Wrote before (trace play limits start text) now
-  WritesSo text left before now TooManyLines = Wrote before (trace play limits start text) now
+  WritesSo text left before now Done = WroteText before (trace play limits start text) now
+  WritesSo text left before now (BadLine number) =
+      WroteText before (trace play limits start text) now
+  WritesSo text left before now TooManyLines = WroteText before (trace play limits start text) now
   WritesSo text left before now (ClaimBroken claim) =
-      Wrote before (trace play limits start text) now
+      WroteText before (trace play limits start text) now
   WritesSo text left before now ReadFault =
-      (taken : List ℕ) × BreaksOff text left taken × Wrote before (blocks_taken taken) now
+      (taken : List ℕ) × BreaksOff text left taken × WroteText before (blocks_taken taken) now
   WritesSo text left before now WriteFault = WroteFront before (trace play limits start text) now
   WritesSo text left before now NoMemory = WroteFront before (trace play limits start text) now
 
 -- A read failed.
-abbrev pub is_read_fault : Replayed → Bool
-is_read_fault Done = false
-is_read_fault (BadLine number) = false
-is_read_fault TooManyLines = false
-is_read_fault (ClaimBroken claim) = false
-is_read_fault ReadFault = true
-is_read_fault WriteFault = false
-is_read_fault NoMemory = false
+abbrev pub replay_read_failed : Replayed → Bool
+replay_read_failed Done = false
+replay_read_failed (BadLine number) = false
+replay_read_failed TooManyLines = false
+replay_read_failed (ClaimBroken claim) = false
+replay_read_failed ReadFault = true
+replay_read_failed WriteFault = false
+replay_read_failed NoMemory = false
 
 -- A write failed.
-abbrev pub is_write_fault : Replayed → Bool
-is_write_fault Done = false
-is_write_fault (BadLine number) = false
-is_write_fault TooManyLines = false
-is_write_fault (ClaimBroken claim) = false
-is_write_fault ReadFault = false
-is_write_fault WriteFault = true
-is_write_fault NoMemory = false
+abbrev pub replay_write_failed : Replayed → Bool
+replay_write_failed Done = false
+replay_write_failed (BadLine number) = false
+replay_write_failed TooManyLines = false
+replay_write_failed (ClaimBroken claim) = false
+replay_write_failed ReadFault = false
+replay_write_failed WriteFault = true
+replay_write_failed NoMemory = false
+
+-- There was no memory.
+abbrev pub replay_wants : Replayed → Bool
+replay_wants Done = false
+replay_wants (BadLine number) = false
+replay_wants TooManyLines = false
+replay_wants (ClaimBroken claim) = false
+replay_wants ReadFault = false
+replay_wants WriteFault = false
+replay_wants NoMemory = true
 
 -- The replay came to where the schedule ends.
 abbrev pub is_decided : Replayed → Bool
@@ -143,5 +154,12 @@ is_decided NoMemory = false
 -- reading failed, the other where writing failed, and each stays at every other answer.
 abbrev pub ReplayCounts : ℕ → ℕ → ℕ → ℕ → Replayed → Type 0
 ReplayCounts read_before read_now write_before write_now result =
-    RisesWhere (is_read_fault result) read_before read_now
-    × RisesWhere (is_write_fault result) write_before write_now
+    RisesWhere (replay_read_failed result) read_before read_now
+    × RisesWhere (replay_write_failed result) write_before write_now
+
+-- The counts of calls without memory of the schedule and of the sink, before and after: each may
+-- have risen where the answer is want of memory, and stays at every other answer.
+abbrev pub ReplayWants : ℕ → ℕ → ℕ → ℕ → Replayed → Type 0
+ReplayWants read_before read_now write_before write_now result =
+    MayRise (replay_wants result) read_before read_now
+    × MayRise (replay_wants result) write_before write_now

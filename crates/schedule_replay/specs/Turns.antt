@@ -1,5 +1,5 @@
 -- What the steps of the loop that replays a schedule do: asking for a line, playing one, ending.
-use Rattle.std.specs.Prelude.{◌≡◌, ◌⊎◌, ℕ, ◌+◌, List, [], ◌++◌, take, Bool, true, false, Some, None}
+use Rattle.std.specs.Prelude.{◌≡◌, ◌⊎◌, ℕ, ◌+◌, List, [], ◌++◌, take, Bool, false, Some, None}
 use Rattle.std.specs.Prelude.{Result, Ok, Err}
 use Rattle.std.specs.declared.option.Option.{Option}
 use Rattle.std.specs.Io.KnownBytes.{append_known}
@@ -8,8 +8,8 @@ use Rattle.schedule_replay.specs.NextLine.{GetsLine, FindsEnd, FindsLong, FindsM
 use Rattle.schedule_replay.specs.Play.{Play}
 use Rattle.schedule_replay.specs.Played.{Stop, stopped, behind, numbered_block, claim_text}
 use Rattle.schedule_replay.specs.Played.{played, trace}
-use Rattle.schedule_replay.specs.Replayed.{answer_of, LeavesAt, BreaksOff, blocks_taken, is_decided}
-use Rattle.schedule_replay.specs.Replayed.{is_read_fault, is_write_fault}
+use Rattle.schedule_replay.specs.Replayed.{answer_of, LeavesAt, BreaksOff, blocks_taken}
+use Rattle.schedule_replay.specs.Replayed.{replay_read_failed, replay_write_failed, replay_wants}
 use Rattle.schedule_replay.specs.declared.limits.Limits.{Limits}
 use Rattle.schedule_replay.specs.declared.lines.NextLine.{NextLine}
 use Rattle.schedule_replay.specs.declared.lines.NextLine.TheVariants as next
@@ -73,19 +73,19 @@ AskWrites old new before now (Ok number) = Moved old new before now
 AskWrites old new before now (Err answer) = AskKeeps old new before now answer
 
 -- A read failed.
-abbrev pub asks_fault : Result ℕ Replayed → Bool
-asks_fault (Ok number) = false
-asks_fault (Err answer) = is_read_fault answer
+abbrev pub ask_read_failed : Result ℕ Replayed → Bool
+ask_read_failed (Ok number) = false
+ask_read_failed (Err answer) = replay_read_failed answer
 
 -- A write failed.
-abbrev pub asks_write_fault : Result ℕ Replayed → Bool
-asks_write_fault (Ok number) = false
-asks_write_fault (Err answer) = is_write_fault answer
+abbrev pub ask_write_failed : Result ℕ Replayed → Bool
+ask_write_failed (Ok number) = false
+ask_write_failed (Err answer) = replay_write_failed answer
 
--- Nothing failed, and memory didn't lack.
-abbrev pub asks_well : Result ℕ Replayed → Bool
-asks_well (Ok number) = true
-asks_well (Err answer) = is_decided answer
+-- There was no memory, of the schedule's, of the sink's or for the line.
+abbrev pub ask_wants : Result ℕ Replayed → Bool
+ask_wants (Ok number) = false
+ask_wants (Err answer) = replay_wants answer
 
 module _ {State Item : Type 0} (play : Play State Item) where
   -- An item that the line says was played after so many others, and its block stands behind what

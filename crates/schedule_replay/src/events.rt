@@ -5,25 +5,16 @@ ghost use Rattle.rv_base.specs.Words.{words};
 ghost use Rattle.schedule_replay.specs.EventLines as events;
 ghost use Rattle.schedule_replay.specs.EventLines.{Says, event_line};
 
+use crate::player::Meaning;
 use proto_model::Event;
 use rv_base::{next_word, read_number};
 
 // The greatest number that a line can write.
 const NUMBER_LIMIT: u64 = 99_999;
 
-/// What a line of a schedule of events says.
-#[derive(Clone, Copy, Debug, PartialEq, Eq)]
-pub enum EventLine {
-    /// The line has no words.
-    Blank,
-    /// The line's words are those of this event.
-    Event(Event),
-    /// The line is malformed: it has words, and they are those of no event.
-    Bad,
-}
-
-// The number that the word writes.
-fn number(word: &[u8]) -> Option<u32>
+/// The number from 0 to 99,999 whose decimal text the word is, without leading zeros. `None` where
+/// it is that of no such number. Takes no memory.
+pub fn schedule_number(word: &[u8]) -> Option<u32>
     ensures { result ≡ events.number word.now }
 {
     match read_number(word, NUMBER_LIMIT) {
@@ -36,11 +27,11 @@ fn number(word: &[u8]) -> Option<u32>
 fn tau_event(who: &[u8], rule: &[u8]) -> Option<Event>
     ensures { result ≡ events.tau_event who.now rule.now }
 {
-    let rule = number(rule)?;
+    let rule = schedule_number(rule)?;
     if who == b"home".as_slice() {
         return Some(Event::TauHome(rule));
     }
-    Some(Event::TauRemote(number(who)?, rule))
+    Some(Event::TauRemote(schedule_number(who)?, rule))
 }
 
 // The event of the name, `up` or `down`, and these three words.
@@ -48,9 +39,9 @@ fn meeting_event(name: &[u8], remote: &[u8], home_rule: &[u8], remote_rule: &[u8
     ensures { result ≡ events.meeting_event name.now remote.now home_rule.now remote_rule.now }
 {
     let (remote, home_rule, remote_rule) = (
-        number(remote)?,
-        number(home_rule)?,
-        number(remote_rule)?,
+        schedule_number(remote)?,
+        schedule_number(home_rule)?,
+        schedule_number(remote_rule)?,
     );
     if name == b"up".as_slice() {
         return Some(Event::Up(remote, home_rule, remote_rule));
@@ -81,25 +72,26 @@ fn event_of(name: &[u8], rest: &[u8]) -> Option<Event>
 }
 
 // What a line says that has this word and then those of the rest.
-fn line_of_words(name: &[u8], rest: &[u8]) -> EventLine
+fn line_of_words(name: &[u8], rest: &[u8]) -> Meaning<Event>
     ensures says { Says (name.now ∷ words rest.now) result }
     ensures value { result ≡ events.line_of_words (name.now ∷ words rest.now) }
 {
     match event_of(name, rest) {
-        Some(event) => EventLine::Event(event),
-        None => EventLine::Bad,
+        Some(event) => Meaning::Says(event),
+        None => Meaning::Bad,
     }
 }
 
 /// Reads a line of a schedule of events, without its LF and whatever its length: of what stands
 /// before the first `//`, cut into words, `tau home G`, `tau J G`, `up J H R` or `down J H R`, with
-/// numbers from 0 to 99,999 without leading zeros. Takes no memory.
-pub fn read_event_line(line: &[u8]) -> EventLine
+/// numbers from 0 to 99,999 without leading zeros. A line without words is blank, and one of other
+/// words malformed. Takes no memory.
+pub fn read_event_line(line: &[u8]) -> Meaning<Event>
     ensures says { Says (words line.now) result }
     ensures value { result ≡ event_line line.now }
 {
     let Some((name, rest)) = next_word(line) else {
-        return EventLine::Blank;
+        return Meaning::Blank;
     };
     line_of_words(name, rest)
 }
@@ -111,29 +103,26 @@ mod tests {
 
     #[test]
     fn each_form_is_read_and_no_other(rt: HostRuntime) -> Result<(), Fail> {
-        let cases: [(&[u8], EventLine); 16] = [
-            (b"tau home 15", EventLine::Event(Event::TauHome(15))),
+        let cases: [(&[u8], Meaning<Event>); 16] = [
+            (b"tau home 15", Meaning::Says(Event::TauHome(15))),
             (
                 b"\ttau 0  99999\r",
-                EventLine::Event(Event::TauRemote(0, 99_999)),
+                Meaning::Says(Event::TauRemote(0, 99_999)),
             ),
-            (b"up 0 1 2//3", EventLine::Event(Event::Up(0, 1, 2))),
-            (
-                b"down 63 0 0 // up",
-                EventLine::Event(Event::Down(63, 0, 0)),
-            ),
-            (b"", EventLine::Blank),
-            (b" \t\r// up 0 1 2", EventLine::Blank),
-            (b"up 0 1", EventLine::Bad),
-            (b"up 0 1 2 3", EventLine::Bad),
-            (b"up 0 1 02", EventLine::Bad),
-            (b"up 0 1 100000", EventLine::Bad),
-            (b"up 0 1 /2", EventLine::Bad),
-            (b"tau home", EventLine::Bad),
-            (b"tau home home", EventLine::Bad),
-            (b"home tau 1", EventLine::Bad),
-            (b"tau 0 0 0", EventLine::Bad),
-            (b"up\x0b0 1 2", EventLine::Bad),
+            (b"up 0 1 2//3", Meaning::Says(Event::Up(0, 1, 2))),
+            (b"down 63 0 0 // up", Meaning::Says(Event::Down(63, 0, 0))),
+            (b"", Meaning::Blank),
+            (b" \t\r// up 0 1 2", Meaning::Blank),
+            (b"up 0 1", Meaning::Bad),
+            (b"up 0 1 2 3", Meaning::Bad),
+            (b"up 0 1 02", Meaning::Bad),
+            (b"up 0 1 100000", Meaning::Bad),
+            (b"up 0 1 /2", Meaning::Bad),
+            (b"tau home", Meaning::Bad),
+            (b"tau home home", Meaning::Bad),
+            (b"home tau 1", Meaning::Bad),
+            (b"tau 0 0 0", Meaning::Bad),
+            (b"up\x0b0 1 2", Meaning::Bad),
         ];
         for (line, says) in cases {
             assert_eq!(rt; read_event_line(line), says);

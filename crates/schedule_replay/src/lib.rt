@@ -23,9 +23,10 @@ mod replaying;
 mod rv_player;
 mod rv_trace;
 
-pub use events::{EventLine, read_event_line};
+pub use events::{read_event_line, schedule_number};
 pub use limits::{Limits, SCHEDULE_LIMITS};
 pub use lines::{Lines, NextLine};
 pub use player::{Meaning, Player};
 pub use replaying::{Replayed, play_schedule};
 pub use rv_player::{RvPlayer, replay_events};
+pub use rv_trace::rv_lines;

@@ -1,9 +1,10 @@
 //! What a reader of lines holds of its source.
 
 ghost use Rattle.std.specs.Prelude.{◌≡◌, ◌≤◌, ◌<◌, ◌^◌, [], ◌++◌, length, take, drop, true};
-ghost use Rattle.std.specs.Prelude.{OnOk, OnErr};
+ghost use Rattle.std.specs.Prelude.{OnOk, OnErr, ℕ};
 ghost use Rattle.std.specs.List.{position};
-ghost use Rattle.schedule_replay.specs.Lines.{HasNoLf, is_lf};
+ghost use Rattle.schedule_replay.specs.declared.line_buffer.Held.{Held};
+ghost use Rattle.schedule_replay.specs.TextLines.{HasNoLf, is_lf};
 
 use crate::limits::Limits;
 use crate::lines::NextLine;
@@ -11,6 +12,17 @@ use rv_base::{NoMemory, ReadAnswer, Source};
 use std::alloc::Global;
 
 const LF: u8 = b'\n';
+
+// Where the last line got stands.
+#[derive(Clone, Copy)]
+enum Held {
+    // No line is held: the next one isn't got yet.
+    Nothing,
+    // In `part`.
+    Joined,
+    // In the piece, between these places.
+    InPiece(usize, usize),
+}
 
 // What a read of one piece gave.
 #[derive(Clone, Copy)]
@@ -31,14 +43,9 @@ pub(crate) struct LineBuffer {
     piece: [u8; 256],
     start: usize,
     end: usize,
-    // Bytes of earlier pieces: where `partial`, those of a line that is not got yet, and else,
-    // where `joined`, the last line got. Where neither, it stands in the piece, between `from` and
-    // `to`.
+    // Bytes of earlier pieces: where no line is held, those of the line that is not got yet.
     part: Vec<u8>,
-    partial: bool,
-    joined: bool,
-    from: usize,
-    to: usize,
+    held: Held,
     got: u32,
     ended: bool,
     ghost small: { limits.line < 2 ^ 32 },
@@ -46,14 +53,14 @@ pub(crate) struct LineBuffer {
     ghost in_order: { start ≤ end },
     ghost within: { end ≤ 256 },
     ghost room: { length piece ≡ 256 },
-    ghost apart: { from ≤ to },
-    ghost inside: { to ≤ 256 },
+    ghost apart: { (from to : ℕ) → held ≡ Held.InPiece from to → from ≤ to },
+    ghost inside: { (from to : ℕ) → held ≡ Held.InPiece from to → to ≤ 256 },
     ghost counted: { got ≤ limits.lines },
-    ghost one_line: { partial ≡ true → HasNoLf part.items },
-    ghost fits: { partial ≡ true → length part.items ≤ limits.line },
-    ghost none_past: { partial ≡ true → got ≡ limits.lines → part.items ≡ [] },
+    ghost one_line: { held ≡ Held.Nothing → HasNoLf part.items },
+    ghost fits: { held ≡ Held.Nothing → length part.items ≤ limits.line },
+    ghost none_past: { held ≡ Held.Nothing → got ≡ limits.lines → part.items ≡ [] },
     ghost none_pending: { ended ≡ true → start ≡ end },
-    ghost none_begun: { partial ≡ true → ended ≡ true → part.items ≡ [] },
+    ghost none_begun: { held ≡ Held.Nothing → ended ≡ true → part.items ≡ [] },
 }
 
 // The place of the first LF, if there is one.
@@ -75,17 +82,17 @@ fn append(part: &mut Vec<u8>, piece: &[u8], from: usize, to: usize) -> Result<()
 }
 
 impl LineBuffer {
-    ghost use Rattle.std.specs.Prelude.{Some, None, false, List, ℕ, ◌⊎◌};
+    ghost use Rattle.std.specs.Prelude.{Some, None, false, List};
     ghost use Rattle.std.specs.declared.option.Option.{Option};
     ghost use Rattle.std.specs.Io.KnownBytes.{IsAtEnd};
     ghost use Rattle.schedule_replay.specs.Reading.{nothing_read};
-    ghost use Rattle.rv_base.specs.Outside.{RisesWhere};
-    ghost use Rattle.schedule_replay.specs.NextLine.{NextMoves, is_fault, is_well};
+    ghost use Rattle.rv_base.specs.Outside.{RisesWhere, MayRise};
+    ghost use Rattle.schedule_replay.specs.NextLine.{NextMoves, next_failed, next_wants};
     ghost use Rattle.schedule_replay.specs.AtHand.{pending, text_of, reading_of};
     ghost use Rattle.schedule_replay.specs.AtHand.{SameCount, Opens, Holds, HandMoves, SameLine};
     ghost use Rattle.schedule_replay.specs.AtHand.{FillMoves};
-    ghost use Rattle.schedule_replay.specs.AtHand.{is_failed, is_end, is_refused};
-    ghost use Rattle.schedule_replay.specs.AtHand.{TurnMoves, TurnCounts, turns_well};
+    ghost use Rattle.schedule_replay.specs.AtHand.{fill_failed, fill_ends, fill_wants};
+    ghost use Rattle.schedule_replay.specs.AtHand.{TurnMoves, turn_failed, turn_wants};
 
     /// Stands before line 1. Takes no memory.
     pub(crate) fn new(alloc: Global, limits: Limits) -> LineBuffer
@@ -98,60 +105,56 @@ impl LineBuffer {
             start: 0,
             end: 0,
             part: Vec::new(alloc),
-            partial: true,
-            joined: false,
-            from: 0,
-            to: 0,
+            held: Held::Nothing,
             got: 0,
             ended: false,
         }
     }
 
-    /// The last line got, without its LF. Empty before line 1, and after a call that didn't give
-    /// one.
+    /// The last line got, without its LF. Empty before line 1, and after a call that gave none.
     pub(crate) fn text(&self) -> &[u8]
         ensures { result.now ≡ text_of self.now }
     {
-        if self.partial {
-            return &[];
+        match self.held {
+            Held::Nothing => &[],
+            Held::Joined => self.part.as_slice(),
+            Held::InPiece(from, to) => &self.piece[from..to],
         }
-        if self.joined {
-            return self.part.as_slice();
-        }
-        &self.piece[self.from..self.to]
     }
 
     // Lets the last line got go.
     fn open(&mut self)
         ensures { Opens self.old self.new }
     {
-        if !self.partial {
-            self.part.clear();
-            self.partial = true;
+        match self.held {
+            Held::Nothing => {}
+            Held::Joined | Held::InPiece(_, _) => {
+                self.part.clear();
+                self.held = Held::Nothing;
+            }
         }
     }
 
     // Holds the line at hand, whose last bytes stand in the piece before this place.
     fn hold(&mut self, end: usize) -> Result<(), NoMemory>
-        requires partial { self.old.partial ≡ true }
+        requires vacant { self.old.held ≡ Held.Nothing }
         requires in_order { self.old.start ≤ end }
         requires within { end ≤ self.old.end }
         ensures count { SameCount self.old self.new }
         ensures line { OnOk result (Holds self.old self.new end) }
     {
-        self.from = self.start;
-        self.to = end;
-        self.joined = !self.part.is_empty();
-        if self.joined {
+        if self.part.is_empty() {
+            self.held = Held::InPiece(self.start, end);
+        } else {
             append(&mut self.part, &self.piece, self.start, end)?;
+            self.held = Held::Joined;
         }
-        self.partial = false;
         Ok(())
     }
 
     // Gives the line at hand, whose LF stands so many bytes behind the first one that is pending.
     fn close(&mut self, length: usize) -> NextLine
-        requires partial { self.old.partial ≡ true }
+        requires vacant { self.old.held ≡ Held.Nothing }
         requires few { self.old.got < self.old.limits.lines }
         requires ends { position is_lf (pending self.old) ≡ Some length }
         ensures { HandMoves self.old self.new (Some result) }
@@ -170,7 +173,7 @@ impl LineBuffer {
 
     // Keeps the pending bytes, none of which is an LF.
     fn carry(&mut self) -> Option<NextLine>
-        requires partial { self.old.partial ≡ true }
+        requires vacant { self.old.held ≡ Held.Nothing }
         requires few { self.old.got < self.old.limits.lines }
         requires some { self.old.start < self.old.end }
         requires no_lf { position is_lf (pending self.old) ≡ None }
@@ -207,13 +210,14 @@ impl LineBuffer {
     // Reads one piece.
     fn fill<Q: Source>(&mut self, source: &mut Q) -> Filled
         requires goes { self.old.ended ≡ false }
-        requires partial { self.old.partial ≡ true }
+        requires vacant { self.old.held ≡ Held.Nothing }
         requires spent { self.old.start ≡ self.old.end }
         ensures kept { SameLine self.old self.new }
         ensures bytes { FillMoves self.old self.new (Q.left source.old) (Q.left source.new) result }
-        ensures cause { RisesWhere (is_failed result) (Q.faults source.old) (Q.faults source.new) }
-        ensures ends { Q.ended source.new ≡ is_end result }
-        ensures gave { Q.refused source.new ≡ is_refused result }
+        ensures cause { RisesWhere (fill_failed result)
+            (Q.faults source.old) (Q.faults source.new) }
+        ensures ends { Q.ended source.new ≡ fill_ends result }
+        ensures wants { RisesWhere (fill_wants result) (Q.wants source.old) (Q.wants source.new) }
     {
         match source.read(&mut self.piece) {
             ReadAnswer::Got(count) => {
@@ -230,9 +234,9 @@ impl LineBuffer {
     // Gives the last line, or says that there is none, where the source is at its end.
     fn finish(&mut self) -> NextLine
         requires goes { self.old.ended ≡ false }
-        requires partial { self.old.partial ≡ true }
+        requires vacant { self.old.held ≡ Held.Nothing }
         requires spent { self.old.start ≡ self.old.end }
-        ensures quiet { is_fault result ≡ false }
+        ensures quiet { next_failed result ≡ false }
         ensures moves { (known : Option (List ℕ)) → IsAtEnd known
             → (self.new.limits ≡ self.old.limits) × NextMoves self.old.limits
             (reading_of self.old) (reading_of self.new) known known result }
@@ -241,8 +245,7 @@ impl LineBuffer {
         if self.part.is_empty() {
             return NextLine::End;
         }
-        self.joined = true;
-        self.partial = false;
+        self.held = Held::Joined;
         self.got += 1;
         NextLine::Got(self.got)
     }
@@ -250,12 +253,13 @@ impl LineBuffer {
     // Reads one piece, and gets the next line where that decides it.
     fn turn<Q: Source>(&mut self, source: &mut Q) -> Option<NextLine>
         requires goes { self.old.ended ≡ false }
-        requires partial { self.old.partial ≡ true }
+        requires vacant { self.old.held ≡ Held.Nothing }
         requires spent { self.old.start ≡ self.old.end }
         ensures moves { TurnMoves self.old self.new (Q.left source.old) (Q.left source.new) result }
-        ensures cause { TurnCounts (Q.faults source.old) (Q.faults source.new) result }
+        ensures cause { RisesWhere (turn_failed result)
+            (Q.faults source.old) (Q.faults source.new) }
+        ensures wants { MayRise (turn_wants result) (Q.wants source.old) (Q.wants source.new) }
         ensures ends { self.new.ended ≡ true → Q.ended source.new ≡ true }
-        ensures gave { turns_well result ≡ true → Q.refused source.new ≡ false }
     {
         match self.fill(source) {
             Filled::Ready => self.at_hand(),
@@ -268,16 +272,16 @@ impl LineBuffer {
     /// Gets the next line of the source, or says why there is none, where the bytes taken so far
     /// don't decide that. Where an earlier call found the source at its end, it isn't read again.
     pub(crate) fn read<Q: Source>(&mut self, source: &mut Q) -> NextLine
-        requires partial { self.old.partial ≡ true }
+        requires vacant { self.old.held ≡ Held.Nothing }
         requires spent { self.old.start ≡ self.old.end }
         ensures limits { self.new.limits ≡ self.old.limits }
         ensures moves { NextMoves self.old.limits (reading_of self.old) (reading_of self.new)
             (Q.left source.old) (Q.left source.new) result }
-        ensures cause { RisesWhere (is_fault result) (Q.faults source.old) (Q.faults source.new) }
+        ensures cause { RisesWhere (next_failed result)
+            (Q.faults source.old) (Q.faults source.new) }
         ensures ends { (self.old.ended ≡ true → Q.ended source.old ≡ true)
             → self.new.ended ≡ true → Q.ended source.new ≡ true }
-        ensures gave { is_well result ≡ true
-            → (source.new ≡ source.old) ⊎ (Q.refused source.new ≡ false) }
+        ensures wants { MayRise (next_wants result) (Q.wants source.old) (Q.wants source.new) }
     {
         if self.ended {
             return NextLine::End;

@@ -27,7 +27,7 @@ pub enum NextLine {
 
 /// Reads the lines of a source, one at a time. An LF ends a line; bytes after the last LF are a
 /// last line. No more than one line and one piece of the source are kept. Contracts see how far it
-/// has read.
+/// has read, and the last line got.
 #[derive(Drop)]
 pub struct Lines {
     buffer: LineBuffer,
@@ -43,10 +43,11 @@ impl Model for Lines {
 }
 
 impl Lines {
-    ghost use Rattle.std.specs.Prelude.{◌≡◌, ◌⊎◌, true, false};
-    ghost use Rattle.rv_base.specs.Outside.{RisesWhere};
+    ghost use Rattle.std.specs.Prelude.{◌≡◌, true, false};
+    ghost use Rattle.rv_base.specs.Outside.{RisesWhere, MayRise};
     ghost use Rattle.schedule_replay.specs.Reading.{nothing_read};
-    ghost use Rattle.schedule_replay.specs.NextLine.{NextMoves, AtHandMoves, is_fault, is_well};
+    ghost use Rattle.schedule_replay.specs.NextLine.{NextMoves, AtHandMoves, next_failed};
+    ghost use Rattle.schedule_replay.specs.NextLine.{next_wants};
 
     /// Stands before line 1 of a source, whose lines are to keep these limits. Takes no memory.
     pub fn new(alloc: Global, limits: Limits) -> Lines
@@ -58,7 +59,7 @@ impl Lines {
         }
     }
 
-    /// The last line got, without its LF.
+    /// The last line got, without its LF. Empty before line 1, and after a call that gave none.
     pub fn text(&self) -> &[u8]
         ensures { result.now ≡ self.now.text }
     {
@@ -80,11 +81,11 @@ impl Lines {
         ensures limits { self.new.limits ≡ self.old.limits }
         ensures moves { NextMoves self.old.limits self.old self.new
             (Q.left source.old) (Q.left source.new) result }
-        ensures cause { RisesWhere (is_fault result) (Q.faults source.old) (Q.faults source.new) }
+        ensures cause { RisesWhere (next_failed result)
+            (Q.faults source.old) (Q.faults source.new) }
         ensures ends { (self.old.ended ≡ true → Q.ended source.old ≡ true)
             → self.new.ended ≡ true → Q.ended source.new ≡ true }
-        ensures gave { is_well result ≡ true
-            → (source.new ≡ source.old) ⊎ (Q.refused source.new ≡ false) }
+        ensures wants { MayRise (next_wants result) (Q.wants source.old) (Q.wants source.new) }
     {
         if let Some(answer) = self.buffer.at_hand() {
             return answer;

@@ -6,7 +6,7 @@ ghost use Rattle.schedule_replay.specs.Play.{Play};
 use rv_base::NoMemory;
 use std::alloc::Global;
 
-/// What a line of a schedule says.
+/// What a line of a schedule says: an item, such as an event, or none.
 #[derive(Clone, Copy, Debug, PartialEq, Eq)]
 pub enum Meaning<T> {
     /// The line has no words.

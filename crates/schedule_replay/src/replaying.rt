@@ -1,16 +1,18 @@
 //! The loop that replays a schedule.
 
-ghost use Rattle.std.specs.Prelude.{◌≡◌, ◌⊎◌, ◌+◌, ◌<◌, ◌^◌, [], ◌++◌, true, false, OnOk, IfSome};
-ghost use Rattle.rv_base.specs.Outside.{RisesWhere};
-ghost use Rattle.rv_base.specs.Whole.{TakesAtMost, Writes, writing_failed, WritesThrough};
-ghost use Rattle.schedule_replay.specs.Limits.{most_taken};
+ghost use Rattle.std.specs.Prelude.{◌≡◌, ◌+◌, ◌<◌, ◌^◌, [], ◌++◌, true, false, OnOk, IfSome};
+ghost use Rattle.rv_base.specs.Outside.{RisesWhere, MayRise};
+ghost use Rattle.rv_base.specs.Whole.{TakesAtMost, Writes, writing_failed, writing_wants};
+ghost use Rattle.schedule_replay.specs.ScheduleLimits.{most_taken};
 ghost use Rattle.schedule_replay.specs.Played.{numbered_block};
-ghost use Rattle.schedule_replay.specs.Replayed.{StopsSo, WritesSo, ReplayCounts};
+ghost use Rattle.schedule_replay.specs.Replayed.{StopsSo, WritesSo, ReplayCounts, ReplayWants};
 ghost use Rattle.schedule_replay.specs.Replayed as replayed;
-ghost use Rattle.schedule_replay.specs.Replayed.{is_read_fault, is_write_fault};
+ghost use Rattle.schedule_replay.specs.Replayed.{replay_read_failed, replay_write_failed};
+ghost use Rattle.schedule_replay.specs.Replayed.{replay_wants};
 ghost use Rattle.schedule_replay.specs.Turns as turns;
-ghost use Rattle.schedule_replay.specs.Turns.{AskMoves, AskWrites, asks_fault, asks_write_fault};
-ghost use Rattle.schedule_replay.specs.Turns.{asks_well, PlaysLine, PlaysLines, last_of, EndsWith};
+ghost use Rattle.schedule_replay.specs.Turns.{AskMoves, AskWrites, ask_read_failed};
+ghost use Rattle.schedule_replay.specs.Turns.{ask_write_failed};
+ghost use Rattle.schedule_replay.specs.Turns.{ask_wants, PlaysLine, PlaysLines, last_of, EndsWith};
 
 use crate::limits::Limits;
 use crate::lines::{Lines, NextLine};
@@ -36,7 +38,8 @@ pub enum Replayed {
     ReadFault,
     /// A write failed. A front of what would have been written is.
     WriteFault,
-    /// There is no memory. A front of what would have been written is written.
+    /// There is no memory: none for a read or a write, or none for a line or a block. A front of
+    /// what would have been written is written.
     NoMemory,
 }
 
@@ -55,7 +58,7 @@ fn flush<O: Sink>(kept: &mut Vec<u8>, out: &mut O) -> Wrote
     ensures none { kept.new.items ≡ [] }
     ensures bytes { Writes (O.taken out.old) (O.taken out.new) kept.old.items result }
     ensures cause { RisesWhere (writing_failed result) (O.faults out.old) (O.faults out.new) }
-    ensures went { WritesThrough O.refused out.old out.new result }
+    ensures wants { RisesWhere (writing_wants result) (O.wants out.old) (O.wants out.new) }
 {
     let wrote = write_whole(out, kept);
     kept.clear();
@@ -89,13 +92,13 @@ fn ask<Q: Source, O: Sink>(
     ensures moves { AskMoves lines.old.limits lines.old lines.new
         (Q.left schedule.old) (Q.left schedule.new) result }
     ensures ends { lines.new.ended ≡ true → Q.ended schedule.new ≡ true }
-    ensures reads { RisesWhere (asks_fault result) (Q.faults schedule.old) (Q.faults schedule.new) }
+    ensures reads { RisesWhere (ask_read_failed result)
+        (Q.faults schedule.old) (Q.faults schedule.new) }
     ensures bytes { AskWrites kept.old.items kept.new.items
         (O.taken out.old) (O.taken out.new) result }
-    ensures writes { RisesWhere (asks_write_fault result) (O.faults out.old) (O.faults out.new) }
-    ensures went { asks_well result ≡ true → (out.new ≡ out.old) ⊎ (O.refused out.new ≡ false) }
-    ensures gave { asks_well result ≡ true
-        → (schedule.new ≡ schedule.old) ⊎ (Q.refused schedule.new ≡ false) }
+    ensures writes { RisesWhere (ask_write_failed result) (O.faults out.old) (O.faults out.new) }
+    ensures read_wants { MayRise (ask_wants result) (Q.wants schedule.old) (Q.wants schedule.new) }
+    ensures write_wants { MayRise (ask_wants result) (O.wants out.old) (O.wants out.new) }
 {
     if let Some(next) = lines.at_hand() {
         return said(next);
@@ -169,15 +172,17 @@ fn play_lines<P: Player, Q: Source, O: Sink>(
     ensures plays { IfSome (Q.left schedule.old) (λ text.
         PlaysLines P.play limits player.old text (Q.left schedule.new)
         (O.taken out.old) (O.taken out.new) kept.new.items player.new result) }
-    ensures reads { RisesWhere (is_read_fault result)
+    ensures reads { RisesWhere (replay_read_failed result)
         (Q.faults schedule.old) (Q.faults schedule.new) }
-    ensures writes { RisesWhere (is_write_fault result) (O.faults out.old) (O.faults out.new) }
+    ensures writes { RisesWhere (replay_write_failed result) (O.faults out.old) (O.faults out.new) }
     ensures taken { TakesAtMost (most_taken limits) (Q.left schedule.old) (Q.left schedule.new) }
     ensures ended { result ≡ Replayed.Done → Q.ended schedule.new ≡ true }
-    ensures went { replayed.is_decided result ≡ true
-        → (out.new ≡ out.old) ⊎ (O.refused out.new ≡ false) }
-    ensures gave { replayed.is_decided result ≡ true
-        → (schedule.new ≡ schedule.old) ⊎ (Q.refused schedule.new ≡ false) }
+    ensures at_start { IfSome (P.play.halts player.old) (λ claim.
+        (result ≡ Replayed.ClaimBroken claim) × (player.new ≡ player.old)
+        × (schedule.new ≡ schedule.old) × (out.new ≡ out.old) × (kept.new.items ≡ [])) }
+    ensures read_wants { MayRise (replay_wants result)
+        (Q.wants schedule.old) (Q.wants schedule.new) }
+    ensures write_wants { MayRise (replay_wants result) (O.wants out.old) (O.wants out.new) }
 {
     if let Some(claim) = player.halts() {
         return Replayed::ClaimBroken(claim);
@@ -227,9 +232,8 @@ fn end<P: Player, O: Sink>(
     requires { replayed.is_decided answer ≡ true }
     ensures bytes { EndsWith P.play answer (kept.old.items ++ last_of P.play player.now answer)
         (O.taken out.old) (O.taken out.new) result }
-    ensures writes { RisesWhere (is_write_fault result) (O.faults out.old) (O.faults out.new) }
-    ensures went { replayed.is_decided result ≡ true
-        → (out.new ≡ out.old) ⊎ (O.refused out.new ≡ false) }
+    ensures writes { RisesWhere (replay_write_failed result) (O.faults out.old) (O.faults out.new) }
+    ensures wants { MayRise (replay_wants result) (O.wants out.old) (O.wants out.new) }
 {
     if put_last(alloc, player, answer, kept).is_err() {
         return Replayed::NoMemory;
@@ -242,9 +246,15 @@ fn end<P: Player, O: Sink>(
 }
 
 /// Replays a schedule on the machine, and writes its trace: the block of each item that a line
-/// says, and behind the last one what shows the machine. Whenever a read of the schedule is asked
-/// for, the blocks of all lines that were taken whole are written, in one go. The answer says how
-/// the replay ended, and with it what was taken of the schedule and what was written.
+/// says, and behind the last one what shows the machine, where the schedule was played to its end.
+/// Where a claim is broken, which is looked at before the first line and after each item, the line
+/// that says so and then what shows the machine end the trace. A refused schedule's trace ends with
+/// the last block.
+///
+/// Whenever a read of the schedule is asked for, the blocks of all lines that were taken whole are
+/// written, in one go. The answer says how the replay ended, and with it what was taken of the
+/// schedule and what was written. Nothing is asked of the schedule where a claim is broken at the
+/// start. Either count of calls without memory stays unless the answer is `NoMemory`.
 ///
 /// No more is kept than one line, one piece of the schedule, and the blocks of the lines that end
 /// in it.
@@ -263,12 +273,14 @@ pub fn play_schedule<P: Player, Q: Source, O: Sink>(
         (O.taken out.new) result)) }
     ensures counts { ReplayCounts (Q.faults schedule.old) (Q.faults schedule.new)
         (O.faults out.old) (O.faults out.new) result }
+    ensures wants { ReplayWants (Q.wants schedule.old) (Q.wants schedule.new)
+        (O.wants out.old) (O.wants out.new) result }
     ensures taken { TakesAtMost (most_taken limits) (Q.left schedule.old) (Q.left schedule.new) }
     ensures ended { result ≡ Replayed.Done → Q.ended schedule.new ≡ true }
-    ensures went { replayed.is_decided result ≡ true
-        → (out.new ≡ out.old) ⊎ (O.refused out.new ≡ false) }
-    ensures gave { replayed.is_decided result ≡ true
-        → (schedule.new ≡ schedule.old) ⊎ (Q.refused schedule.new ≡ false) }
+    ensures at_start { IfSome (P.play.halts player.old) (λ claim. (schedule.new ≡ schedule.old)
+        × EndsWith P.play (Replayed.ClaimBroken claim)
+        (last_of P.play player.old (Replayed.ClaimBroken claim))
+        (O.taken out.old) (O.taken out.new) result) }
 {
     let mut kept = Vec::new(alloc);
     let answer = play_lines(alloc, limits, player, schedule, &mut kept, out);

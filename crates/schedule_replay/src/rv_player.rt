@@ -1,17 +1,17 @@
 //! Schedules of events, played on the rendezvous meaning of a protocol.
 
-ghost use Rattle.std.specs.Prelude.{◌≡◌, ◌⊎◌, ◌≤◌, true, false, IfOk, IfSome};
+ghost use Rattle.std.specs.Prelude.{◌≡◌, ◌≤◌, true, IfOk, IfSome};
 ghost use Rattle.rv_base.specs.Whole.{TakesAtMost};
-ghost use Rattle.schedule_replay.specs.Replayed.{StopsSo, WritesSo, ReplayCounts, is_decided};
-ghost use Rattle.schedule_replay.specs.Limits.{schedule_limits, most_taken};
-ghost use Rattle.schedule_replay.specs.RvTrace.{rv_play, rv_watched};
+ghost use Rattle.schedule_replay.specs.Replayed.{StopsSo, WritesSo, ReplayCounts, ReplayWants};
+ghost use Rattle.schedule_replay.specs.ScheduleLimits.{schedule_limits, most_taken};
+ghost use Rattle.schedule_replay.specs.RvPlay.{rv_play, rv_watched};
 
-use crate::events::{EventLine, read_event_line};
+use crate::events::read_event_line;
 use crate::limits::SCHEDULE_LIMITS;
 use crate::player::{Meaning, Player};
 use crate::replaying::{Replayed, play_schedule};
 use crate::rv_trace::{put_ending, put_outcome};
-use proto_model::{Event, RuleClaim, event_text};
+use proto_model::{Event, NumberedClaim, event_text};
 use rendezvous_meaning::{RvMachine, broken};
 use rv_base::{NoMemory, Sink, Source};
 use star_check::Checked;
@@ -23,12 +23,12 @@ use std::marker::Model;
 #[derive(Drop)]
 pub struct RvPlayer<'a> {
     machine: RvMachine<'a>,
-    claims: &'a [RuleClaim],
+    claims: &'a [NumberedClaim],
 }
 
 impl<'a> Model for RvPlayer<'a> {
     ghost use Rattle.std.specs.Prelude.{◌≤◌, length};
-    ghost use Rattle.schedule_replay.specs.RvTrace.{Watched};
+    ghost use Rattle.schedule_replay.specs.RvPlay.{Watched};
 
     ghost Value = { Watched };
 
@@ -52,18 +52,14 @@ impl<'a> RvPlayer<'a> {
 }
 
 impl<'a> Player for RvPlayer<'a> {
-    ghost use Rattle.schedule_replay.specs.RvTrace.{rv_play};
+    ghost use Rattle.schedule_replay.specs.RvPlay.{rv_play};
 
     type Item = Event;
 
     ghost play = { rv_play };
 
     fn read(&self, line: &[u8]) -> Meaning<Event> {
-        match read_event_line(line) {
-            EventLine::Blank => Meaning::Blank,
-            EventLine::Event(event) => Meaning::Says(event),
-            EventLine::Bad => Meaning::Bad,
-        }
+        read_event_line(line)
     }
 
     fn play(&mut self, alloc: Global, item: Event, out: &mut Vec<u8>) -> Result<(), NoMemory> {
@@ -85,8 +81,8 @@ impl<'a> Player for RvPlayer<'a> {
 /// trace. The answer says how the replay ended, and with it what was taken of the schedule and what
 /// was written: at most 257,000,256 bytes of the schedule, which are 1,000,000 lines of 256 bytes
 /// with their LFs, and 256 bytes. The claims of the protocol are looked at before the first line is
-/// read and after each event. Where there is no memory for the remotes at the start, nothing was
-/// taken or written.
+/// read and after each event. Where one is broken at the start, nothing is asked of the schedule;
+/// where there is no memory for the remotes at the start, nothing was taken or written.
 pub fn replay_events<Q: Source, O: Sink>(
     alloc: Global,
     checked: &Checked,
@@ -103,12 +99,13 @@ pub fn replay_events<Q: Source, O: Sink>(
         (Q.left schedule.new) before (O.taken out.new) result)) }
     ensures counts { ReplayCounts (Q.faults schedule.old) (Q.faults schedule.new)
         (O.faults out.old) (O.faults out.new) result }
+    ensures wants { ReplayWants (Q.wants schedule.old) (Q.wants schedule.new)
+        (O.wants out.old) (O.wants out.new) result }
     ensures taken { TakesAtMost (most_taken schedule_limits)
         (Q.left schedule.old) (Q.left schedule.new) }
     ensures ended { result ≡ Replayed.Done → Q.ended schedule.new ≡ true }
-    ensures went { is_decided result ≡ true → (out.new ≡ out.old) ⊎ (O.refused out.new ≡ false) }
-    ensures gave { is_decided result ≡ true
-        → (schedule.new ≡ schedule.old) ⊎ (Q.refused schedule.new ≡ false) }
+    ensures at_start { IfSome (rv_play.halts (rv_watched checked.now n))
+        (λ _. schedule.new ≡ schedule.old) }
 {
     match RvPlayer::new(alloc, checked, n) {
         Ok(mut player) => play_schedule(alloc, SCHEDULE_LIMITS, &mut player, schedule, out),

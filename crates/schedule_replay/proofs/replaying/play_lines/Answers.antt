@@ -1,9 +1,8 @@
 -- Each turn keeps what was read and what was played in step, and each answer says how it ends.
-use Rattle.std.proofs.Common.{◌≡◌, [], ◌∷◌, ◌++◌, false, inl, refl, sym, ◌∙◌, ap}
+use Rattle.std.proofs.Common.{◌≡◌, [], ◌∷◌, ◌++◌, false, refl, sym, ◌∙◌, ap}
 use Rattle.schedule_replay.specs.Reading.{Reading}
-use Rattle.schedule_replay.proofs.LinesSoFar.{Reads-start, Reads-few}
+use Rattle.schedule_replay.proofs.LinesSoFar.{HasRead-start, HasRead-few}
 use Rattle.schedule_replay.proofs.PlayedSoFar.{Plays-start, Plays-asked}
-use Rattle.schedule_replay.proofs.LastWrite.{went-on}
 use Rattle.schedule_replay.proofs.ReplayEnds.{got, halts-at-once, ask-owes, ask-few, line-owes}
 use Rattle.schedule_replay.proofs.ReplayEnds.{line-plays, gets-within, ends-within}
 use Rattle.schedule_replay.proofs.replaying.play_lines.Goals as goal
@@ -17,15 +16,16 @@ returns-in-Some-clause-plays g c =
 pub loop-number-init : goal.loop-number-init
 loop-number-init g c = record {
   done = [];
-  reads = rw c.new-lines.ensures (Reads-start c.args.limits
+  reads = rw c.new-lines.ensures (HasRead-start c.args.limits
       (g.Q.Source.left c.args.schedule.now));
   plays = rw c.requires.none (Plays-start g.P.Player.play c.args.limits c.args.player.now
       (g.O.Sink.taken c.args.out.now) (sym c.in_default.ensures));
   same_limits = ap (λ (r : Reading). r.limits) c.new-lines.ensures;
   at_end = λ over. absurd (let none : c.new-lines.result.ended ≡ false =
       ap (λ (r : Reading). r.ended) c.new-lines.ensures in cc);
-  went = inl refl;
-  gave = inl refl;
+  none_halts = sym c.in_default.ensures;
+  same_read_wants = refl;
+  same_write_wants = refl;
   same_reads = refl;
   same_writes = refl;
 }
@@ -66,7 +66,7 @@ returns-in-Some-play_line-clause-plays g c =
 pub returns-in-Some-play_line-clause-taken : goal.returns-in-Some-play_line-clause-taken
 returns-in-Some-play_line-clause-taken g c =
     let so_far = c.loop-number.invariant in
-    Reads-few c.args.limits (got so_far.reads
+    HasRead-few c.args.limits (got so_far.reads
     (gets-within so_far.same_limits c.in-Ok.ensures.moves)).reads
 
 pub loop-number-preserved : goal.loop-number-preserved
@@ -85,10 +85,9 @@ loop-number-preserved g c =
           (rw c.text.ensures at c.in_default-play_line.ensures);
       same_limits = asked.limits ∙ so_far.same_limits;
       at_end = asked.ends;
-      went = went-on g.O.Sink.refused c.args.out.now c.loop-number.out c.ask.new.out so_far.went
-          (asked.went refl);
-      gave = went-on g.Q.Source.refused c.args.schedule.now c.loop-number.schedule
-          c.ask.new.schedule so_far.gave (asked.gave refl);
+      none_halts = so_far.none_halts;
+      same_read_wants = asked.read_wants ∙ so_far.same_read_wants;
+      same_write_wants = asked.write_wants ∙ so_far.same_write_wants;
       same_reads = asked.reads ∙ so_far.same_reads;
       same_writes = asked.writes ∙ so_far.same_writes;
     }

@@ -1,7 +1,7 @@
 -- The pending bytes are looked through for an LF, and the answer is that of the line at hand.
 use Rattle.std.proofs.Common.{Some, sym, ◌∙◌, ap}
 use Rattle.std.specs.List.{position}
-use Rattle.schedule_replay.specs.Lines.{is_lf}
+use Rattle.schedule_replay.specs.TextLines.{is_lf}
 use Rattle.schedule_replay.proofs.LinesTurns.{slice-pending, opened-hand}
 use Rattle.schedule_replay.proofs.line_buffer.LineBuffer.at_hand.Goals as goal
 

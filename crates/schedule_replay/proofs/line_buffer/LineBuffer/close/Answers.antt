@@ -9,7 +9,7 @@ returns-then-len-length c = (
   refl,
   refl,
   λ known.
-      long-closed c.args.self.now c.args.length known c.requires.partial c.requires.few
+      long-closed c.args.self.now c.args.length known c.requires.vacant c.requires.few
       c.requires.ends (omega (arith, c.if-len-length.true, c.len.ensures)),
 )
 
@@ -18,7 +18,7 @@ returns-then-is_err c = (
   refl,
   c.hold.ensures.count.limits,
   c.hold.ensures.count.ended,
-  λ known. lacks-before c.args.self.now known c.requires.partial c.requires.few,
+  λ known. lacks-before c.args.self.now known c.requires.vacant c.requires.few,
 )
 
 pub returns : goal.returns
@@ -29,8 +29,8 @@ returns c =
       refl,
       count.limits,
       count.ended,
-      λ known. gets c.args.self.now _ c.args.length known c.requires.partial c.requires.few
+      λ known. gets c.args.self.now _ c.args.length known c.requires.vacant c.requires.few
           c.requires.ends (omega (arith, c.if-len-length.false, c.len.ensures))
-          held.text (rw (held.partial, held.same.end, held.same.piece) refl)
+          held.text (rw (held.none_part, held.same.end, held.same.piece) refl)
           (ap (λ n. n + 1) count.got) count.ended,
     )

@@ -6,4 +6,4 @@ use Rattle.schedule_replay.proofs.line_buffer.LineBuffer.finish.Goals as goal
 pub overflow_add-self : goal.overflow_add-self
 overflow_add-self c =
     let some : 0 < length c.args.self.now.part.items = grind arith in
-    omega (arith, below-limit c.args.self.now c.requires.partial some)
+    omega (arith, below-limit c.args.self.now c.requires.vacant some)

@@ -27,7 +27,8 @@ loop-answer-preserved g c =
         ended = steps.count.ended ∙ so_far.count.ended;
       };
       goes = steps.count.ended ∙ so_far.goes;
-      is_partial = steps.partial;
+      vacant = steps.vacant;
       spent = steps.spent;
       same_count = c.in_default.ensures.cause ∙ so_far.same_count;
+      same_wants = c.in_default.ensures.wants ∙ so_far.same_wants;
     }

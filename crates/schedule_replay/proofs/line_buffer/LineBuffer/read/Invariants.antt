@@ -1,7 +1,8 @@
--- So far each byte that was taken stands ahead, and no read failed.
-use Rattle.std.proofs.Common.{◌≡◌, ◌+◌, ◌-◌, length, true, false}
+-- So far each byte that was taken stands ahead, and no read failed or had no memory.
+use Rattle.std.proofs.Common.{◌≡◌, ◌+◌, ◌-◌, length, false}
 use Rattle.schedule_replay.specs.NextLine.{Took}
 use Rattle.schedule_replay.specs.AtHand.{SameCount, ahead_of}
+use Rattle.schedule_replay.specs.declared.line_buffer.Held.TheVariants.{Nothing}
 use Rattle.schedule_replay.proofs.line_buffer.LineBuffer.read.Given as goal
 
 abbrev pub invariant-loop-answer : goal.invariant-loop-answer
@@ -10,9 +11,10 @@ invariant-loop-answer g l = record {
       (ahead_of l.self);
   count : SameCount l.fn.self l.self;
   goes : l.self.ended ≡ false;
-  is_partial : l.self.partial ≡ true;
+  vacant : l.self.held ≡ Nothing;
   spent : l.self.start ≡ l.self.end;
   same_count : g.Q.Source.faults l.source ≡ g.Q.Source.faults l.fn.source;
+  same_wants : g.Q.Source.wants l.source ≡ g.Q.Source.wants l.fn.source;
 }
 
 abbrev pub decreases-loop-answer : goal.decreases-loop-answer

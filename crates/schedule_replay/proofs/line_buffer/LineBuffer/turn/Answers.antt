@@ -21,5 +21,5 @@ returns-in-NoMemory-clause-moves g c = (
   c.in-NoMemory.ensures.kept.count.limits,
   then-lacks c.args.self.now c.fill.new.self (g.Q.Source.left c.args.source.now)
       (g.Q.Source.left c.fill.new.source)
-      c.in-NoMemory.ensures.kept c.requires.spent c.requires.partial c.in-NoMemory.ensures.bytes.1,
+      c.in-NoMemory.ensures.kept c.requires.spent c.requires.vacant c.in-NoMemory.ensures.bytes.1,
 )

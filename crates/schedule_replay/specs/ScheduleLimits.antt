@@ -2,8 +2,8 @@
 use Rattle.std.specs.Prelude.{ℕ, ◌+◌, ◌*◌}
 use Rattle.schedule_replay.specs.declared.limits.Limits.{Limits}
 
--- A line of a schedule of events has at most 256 bytes without its LF, and a schedule at most
--- 1,000,000 lines.
+-- A line of a schedule has at most 256 bytes without its LF, and a schedule at most 1,000,000
+-- lines.
 abbrev pub schedule_limits : Limits
 schedule_limits = record { line = 256; lines = 1000000 }
 

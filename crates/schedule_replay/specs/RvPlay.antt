@@ -1,5 +1,5 @@
--- The trace of a schedule of events: what the rendezvous meaning of a protocol does at each of
--- them.
+-- How a schedule of events is played on the rendezvous meaning of a protocol, and the trace of what
+-- it does at each of them.
 --
 -- The block of an event is its number, one space, the event, and `: moved` or `: refused`. Where it
 -- moved, the rendezvous line of the home follows for every event but TauRemote, and then that of
@@ -17,7 +17,7 @@ use Rattle.proto_model.specs.Rendezvous.{rv_start}
 use Rattle.proto_model.specs.RendezvousNext.{rv_next}
 use Rattle.proto_model.specs.Texts.{event_text, rv_line}
 use Rattle.proto_model.specs.declared.numbered.Body.{Body}
-use Rattle.proto_model.specs.declared.numbered.RuleClaim.{RuleClaim}
+use Rattle.proto_model.specs.declared.numbered.NumberedClaim.{NumberedClaim}
 use Rattle.proto_model.specs.declared.rendezvous.Part.{Part}
 use Rattle.proto_model.specs.declared.rendezvous.Event.{Event}
 use Rattle.proto_model.specs.declared.rendezvous.Event.TheVariants as event
@@ -25,22 +25,6 @@ use Rattle.rendezvous_meaning.specs.Claims.{remote_states, broken}
 use Rattle.rendezvous_meaning.specs.Standing.{Standing}
 use Rattle.schedule_replay.specs.EventLines.{event_line}
 use Rattle.schedule_replay.specs.Play.{Play}
-use Rattle.schedule_replay.specs.Limits.{schedule_limits}
-use Rattle.schedule_replay.specs.Played.{Played, played, trace}
-use Rattle.schedule_replay.specs.declared.events.EventLine.{EventLine}
-use Rattle.schedule_replay.specs.declared.events.EventLine.TheVariants as line
-use Rattle.schedule_replay.specs.declared.player.Meaning.{Meaning}
-use Rattle.schedule_replay.specs.declared.player.Meaning.TheVariants as meaning
-
--- What is played at a line that says this.
-abbrev pub meaning_of : EventLine → Meaning Event
-meaning_of line.Blank = meaning.Blank
-meaning_of (line.Event e) = meaning.Says e
-meaning_of line.Bad = meaning.Bad
-
--- A line says an event, or is blank or malformed.
-abbrev pub meaning_of_line : List ℕ → Meaning Event
-meaning_of_line bytes = meaning_of (event_line bytes)
 
 -- The event takes place where it leads to a configuration.
 abbrev pub moves : Standing → Event → Bool
@@ -96,7 +80,7 @@ ending standing = codes "end\n" ++ (home_line standing ++ remote_lines standing)
 -- What contracts see of a machine whose claims are looked at: these claims, the protocol, and the
 -- configuration in which the machine stands.
 pub record Watched : Type 0 where
-  pub claims : List RuleClaim
+  pub claims : List NumberedClaim
   pub standing : Standing
 
 -- The machine stands where the event leads; the claims stay.
@@ -112,7 +96,7 @@ halts watched = broken watched.claims (remote_states watched.standing.config)
 -- broken.
 abbrev pub rv_play : Play Watched Event
 rv_play = record {
-  says = meaning_of_line;
+  says = event_line;
   after = watched_after;
   block = λ watched e. block watched.standing e;
   ending = λ watched. ending watched.standing;
@@ -125,11 +109,3 @@ rv_watched checked n = record {
   claims = checked.claims;
   standing = record { protocol = checked.protocol; config = rv_start checked.protocol n };
 }
-
--- a schedule of events, played on the protocol with n remotes
-abbrev pub rv_played : CheckedProtocol → ℕ → List ℕ → Played Watched
-rv_played checked n text = played rv_play schedule_limits (rv_watched checked n) text
-
--- the trace of a schedule on the protocol with n remotes
-abbrev pub rv_text : CheckedProtocol → ℕ → List ℕ → Text
-rv_text checked n text = trace rv_play schedule_limits (rv_watched checked n) text
