@@ -3,12 +3,12 @@ use Rattle.std.proofs.Common.{◌≡◌, inl, inr, ℕ, ◌<◌, false, List, []
 use Rattle.std.proofs.Common.{drop, Option, Some, None, refl, sym, ap, subst, ◌∙◌, arith}
 use Rattle.std.specs.Option.{option_map_or}
 use Rattle.std.specs.List.{AllByRecursion}
-use Rattle.std.proofs.lemmas.Option.{same_Some}
 use Rattle.proto_model.specs.Proper.{IsProper}
 use Rattle.proto_model.specs.Guards.{part}
 use Rattle.proto_model.specs.ValueTypes.{AreOfKinds}
+use Rattle.proto_model.specs.declared.numbered.Value.{Value}
 use Rattle.proto_model.specs.declared.rendezvous.Part.{Part}
-use Rattle.async_shape.proofs.ProperFacts.{remote_guard, remote_guard-gives}
+use Rattle.proto_model.proofs.ProperFacts.{remote_guard, remote_guard-gives}
 use Rattle.controller_table.specs.declared.rows.GuardId.{GuardId}
 use Rattle.controller_table.specs.declared.rows.Place.{Place}
 use Rattle.controller_table.specs.declared.rows.Place.TheVariants.{Trans}
@@ -28,35 +28,32 @@ use Rattle.async_shape.specs.Phase.{RequestIsHeld, AnswerComes, ReplyIsOwed, as_
 use Rattle.async_shape.specs.Phase.{is_idle_place, waits_at, IsIdle, IsInPhase, IsActiveGuard}
 use Rattle.async_shape.specs.Phase.{IsRemotePlace, IsTypedMessage, IsTypedSlot, IsTypedPacket, Case}
 use Rattle.async_shape.specs.Shape.{IsShaped}
+use Rattle.async_shape.specs.Bounded.{is_request}
 use Rattle.async_shape.specs.declared.config.RemoteState.{RemoteState}
 use Rattle.async_shape.specs.declared.config.Request.{Request}
 use Rattle.async_shape.specs.declared.step.Step.TheVariants as step
-use Rattle.async_shape.proofs.RemoteInversion.{ReachesIdle}
-use Rattle.async_shape.proofs.RemoteInversion.{down-by}
+use Rattle.async_shape.proofs.RemoteInversion.{ReachesIdle, down-by}
 use Rattle.async_shape.proofs.StepInversion.{ArrivesDown, Down-outcome}
-use Rattle.async_shape.proofs.Completed.{IsPart, IsRequestBy, request_by-some, is_answer-reply}
-use Rattle.async_shape.proofs.Completed.{remote-acked, remote-replied}
+use Rattle.async_shape.proofs.Completed.{IsPart, IsAcked, IsReplied, IsRequestBy, request_by-some}
+use Rattle.async_shape.proofs.Completed.{is_answer-reply, remote-acked, remote-replied}
 use Rattle.async_shape.proofs.Places.{IsActiveGuard-rule}
-use Rattle.async_shape.proofs.Phases.{IsIn, is_request, OldPhase, OldCrosses, OldHeld, OldAnswered}
+use Rattle.async_shape.proofs.Phases.{IsIn, OldPhase, OldCrosses, OldHeld, OldAnswered}
 use Rattle.async_shape.proofs.Phases.{OldOwed, due-phase, down_idle-phase, down_request-phase}
-use Rattle.async_shape.proofs.Phases.{down_answer-phase}
+use Rattle.async_shape.proofs.Phases.{down_answer-phase, first-rest}
 use Rattle.async_shape.proofs.RemoteMoves.{view_moved}
 use Rattle.async_shape.proofs.RemoteStepsKeep.{KeepsCase, IsShaped-remote_step}
 
-pub first-rest : (packets : List Packet) (first : Packet) → first_packet packets ≡ Some first
-    → packets ≡ first ∷ drop 1 packets
-first-rest [] first e = absurd (cc)
-first-rest (packet ∷ packets) first e =
-    ap (λ (p : Packet). p ∷ packets) (same_Some packet first e)
-
 module _ (setting : Setting) (proper : IsProper setting.protocol) (j : ℕ) (v : View)
     (case : Case setting v) (arrived : Packet) (first : first_packet v.down ≡ Some arrived) where
+  -- what is left on the down link
   abbrev rest : List Packet
   rest = drop 1 v.down
 
+  -- the packet is the first of the link
   comes : v.down ≡ arrived ∷ drop 1 v.down
   comes = first-rest v.down arrived first
 
+  -- the packet and what follows it are typed
   typed_down : AllByRecursion (IsTypedPacket setting.protocol) (arrived ∷ drop 1 v.down)
   typed_down = subst (AllByRecursion (IsTypedPacket setting.protocol)) comes case.typed.down
 
@@ -68,6 +65,7 @@ module _ (setting : Setting) (proper : IsProper setting.protocol) (j : ℕ) (v :
   abbrev Keeps : RemoteOutcome → Type 0
   Keeps left = KeepsCase setting j v (Some (Down j)) left
 
+  -- the shape is kept where the remote is in a phase again, and typed
   keeps_by : (remote : RemoteState) → IsInPhase setting (left_view remote)
       → IsRemotePlace setting.protocol remote.place
       → AreOfKinds setting.protocol.remote.vars remote.vars
@@ -88,6 +86,7 @@ module _ (setting : Setting) (proper : IsProper setting.protocol) (j : ℕ) (v :
 
   -- ---- the remote is idle
 
+  -- a packet that comes to an idle remote keeps the shape
   idle_keeps : ReachesIdle setting v.remote arrived → Keeps (down setting v.remote arrived)
   idle_keeps is =
       let idle : IsIdle v.remote = ap is_idle_place is.idle in
@@ -115,6 +114,7 @@ module _ (setting : Setting) (proper : IsProper setting.protocol) (j : ℕ) (v :
 
   -- ---- the remote waits, and a request is dropped
 
+  -- the phase where an old request is dropped
   dropped_phase : (old : Request) → OldPhase setting v old rest
       → IsInPhase setting (left_view v.remote)
   dropped_phase old (OldCrosses q none is) = record {
@@ -205,6 +205,7 @@ module _ (setting : Setting) (proper : IsProper setting.protocol) (j : ℕ) (v :
     is : IsIn setting v (AnswerComes q None arrived v.awaited)
     by : IsRequestBy setting.protocol.messages setting.protocol.remote v.remote.vars g q
 
+  -- a remote that waits hears any packet but a request
   hears : (g : GuardId) → v.remote.place ≡ Trans g → is_request arrived ≡ false → Hears g
   hears g waits none =
       let gets = down_answer-phase setting v arrived rest case.in_phase none comes in
@@ -215,8 +216,8 @@ module _ (setting : Setting) (proper : IsProper setting.protocol) (j : ℕ) (v :
         q = gets.0;
         behind = gets.1;
         is = gets.2;
-        by = request_by-some setting.protocol.messages setting.protocol.remote v.remote.vars g gets.0
-            waits_by;
+        by = request_by-some setting.protocol.messages setting.protocol.remote v.remote.vars g
+            gets.0 waits_by;
       }
 
   -- the remote stands there after it has heard the answer
@@ -235,6 +236,38 @@ module _ (setting : Setting) (proper : IsProper setting.protocol) (j : ℕ) (v :
 -- a remote that waits, by the packet that arrives
 module _ (setting : Setting) (proper : IsProper setting.protocol) (j : ℕ) (v : View)
     (case : Case setting v) (g : GuardId) (waits : v.remote.place ≡ Trans g) where
+  -- the remote after an ack that arrives
+  pub acked_remote : first_packet v.down ≡ Some packet.Ack
+      → IsAcked setting.protocol.remote v.remote.vars g 0
+  acked_remote first =
+      let protocol = setting.protocol in
+      let heard = hears setting proper j v case packet.Ack first g waits refl in
+      let active = active_by setting proper j v case packet.Ack first g waits in
+      let output = (IsActiveGuard-rule protocol g heard.by.rule active heard.by.there).1 in
+      let below : 0 < 64 = omega arith in
+      remote-acked protocol proper g heard.by.rule v.remote.vars 0 heard.by.there output
+      case.typed.vars below
+
+  -- the remote after a reply that arrives
+  pub replied_remote : (p : ℕ) (w : Value) → first_packet v.down ≡ Some (packet.Reply p w)
+      → IsReplied setting.protocol.remote v.remote.vars g 0 w
+  replied_remote p w first =
+      let protocol = setting.protocol in
+      let arrived = packet.Reply p w in
+      let heard = hears setting proper j v case arrived first g waits refl in
+      let by = heard.by in
+      let given =
+      remote_guard-gives protocol g.state g.guard by.rule v.remote.vars proper by.message by.there
+      case.typed.vars by.gives in
+      let reply = is_answer-reply (reply_to setting heard.q.message) p w heard.is.fits.2 in
+      let reply_given : reply_to setting by.message.0 ≡ Some p =
+      ap (λ (r : Request). reply_to setting r.message) (sym by.request) ∙ reply in
+      let typed = (typed_down setting proper j v case arrived first).0 in
+      let below : 0 < 64 = omega arith in
+      remote-replied setting proper g by.rule by.message.0 p reply_given w typed.value
+      v.remote.vars 0 by.there given.out case.typed.vars below
+
+  -- a packet that comes to a remote that waits keeps the shape
   waiting_keeps : (arrived : Packet) → first_packet v.down ≡ Some arrived
       → KeepsCase setting j v (Some (Down j))
       (at_remote (down_waiting setting.protocol.remote v.remote g arrived) None)
@@ -248,19 +281,13 @@ module _ (setting : Setting) (proper : IsProper setting.protocol) (j : ℕ) (v :
       (dropped_phase setting proper j v case arrived first old phase) case.typed.place
       case.typed.vars case.typed.slot
   waiting_keeps packet.Ack first =
-      let protocol = setting.protocol in
-      let heard = hears setting proper j v case packet.Ack first g waits refl in
-      let active = active_by setting proper j v case packet.Ack first g waits in
-      let output = (IsActiveGuard-rule protocol g heard.by.rule active heard.by.there).1 in
-      let below : 0 < 64 = omega arith in
-      let acked =
-      remote-acked protocol proper g heard.by.rule v.remote.vars 0 heard.by.there output
-      case.typed.vars below in
+      let acked = acked_remote first in
       let now =
       ap (λ (o : Option Part). at_remote (option_map_or (remote_at v.remote) o v.remote) None)
       acked.acked in
       subst (KeepsCase setting j v (Some (Down j))) (sym now)
-      (heard_keeps setting proper j v case packet.Ack first g acked.after heard acked.part)
+      (heard_keeps setting proper j v case packet.Ack first g acked.after
+      (hears setting proper j v case packet.Ack first g waits refl) acked.part)
   waiting_keeps packet.Nack first =
       let protocol = setting.protocol in
       let heard = hears setting proper j v case packet.Nack first g waits refl in
@@ -269,29 +296,18 @@ module _ (setting : Setting) (proper : IsProper setting.protocol) (j : ℕ) (v :
       heard_keeps setting proper j v case packet.Nack first g (part g.state v.remote.vars) heard
       (record { within = there; kinds = case.typed.vars })
   waiting_keeps (packet.Reply p w) first =
-      let protocol = setting.protocol in
       let arrived = packet.Reply p w in
-      let heard = hears setting proper j v case arrived first g waits refl in
-      let by = heard.by in
-      let given =
-      remote_guard-gives protocol g.state g.guard by.rule v.remote.vars proper by.message by.there
-      case.typed.vars by.gives in
-      let reply = is_answer-reply (reply_to setting heard.q.message) p w heard.is.fits.2 in
-      let reply_given : reply_to setting by.message.0 ≡ Some p =
-      ap (λ (r : Request). reply_to setting r.message) (sym by.request) ∙ reply in
-      let typed = (typed_down setting proper j v case arrived first).0 in
-      let below : 0 < 64 = omega arith in
-      let replied =
-      remote-replied setting proper g by.rule by.message.0 p reply_given w typed.value v.remote.vars 0
-      by.there given.out case.typed.vars below in
+      let replied = replied_remote p w first in
       let now =
       ap (λ (o : Option Part). at_remote (option_map_or (remote_at v.remote) o v.remote) None)
       replied.replied in
       subst (KeepsCase setting j v (Some (Down j))) (sym now)
-      (heard_keeps setting proper j v case arrived first g replied.after heard replied.part)
+      (heard_keeps setting proper j v case arrived first g replied.after
+      (hears setting proper j v case arrived first g waits refl) replied.part)
 
 -- ---- the step
 
+-- a packet that arrives at the remote keeps its case
 pub Down-keeps : (setting : Setting) (c : Config) (j : ℕ) (v : View) → IsProper setting.protocol
     → Case setting v → (arrived : Packet) → first_packet v.down ≡ Some arrived
     → KeepsCase setting j v (Some (Down j)) (down setting v.remote arrived)
@@ -309,6 +325,7 @@ Down-keeps setting c j v proper case arrived first = elim (down-by setting v.rem
   ]
 ]
 
+-- A packet that arrives at a remote keeps the shape.
 pub IsShaped-Down : (setting : Setting) → IsProper setting.protocol → (c : Config) (j : ℕ)
     (o : StepOutcome) → IsShaped setting c → outcome setting c (step.Down j) ≡ Some o
     → IsShaped setting (config_after c o)

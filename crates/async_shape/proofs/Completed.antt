@@ -1,9 +1,9 @@
 -- Where a process stands after it has completed a guard, alone or with an ack or a reply: in range,
 -- and with each variable of its type.
-use Rattle.std.proofs.Common.{◌≡◌, ℕ, ◌<◌, true, List, length, Option, Some, None}
-use Rattle.std.proofs.Common.{refl, sym, ap, ◌∙◌}
+use Rattle.std.proofs.Common.{◌≡◌, ℕ, ◌<◌, Bool, true, List, length, Option, Some, None}
+use Rattle.std.proofs.Common.{refl, sym, ap, ◌∙◌, if◌then◌else◌}
 use Rattle.std.specs.Option.{option_map, option_and_then}
-use Rattle.std.proofs.lemmas.Bool.{eqb-true}
+use Rattle.std.proofs.lemmas.Bool.{eqb-true, eq-eqb}
 use Rattle.rv_base.proofs.Lists.{some_map, some_and_then}
 use Rattle.proto_model.specs.Numbered.{NumberedProtocol}
 use Rattle.proto_model.specs.Proper.{IsProper, is_output_kind}
@@ -16,16 +16,22 @@ use Rattle.proto_model.specs.declared.numbered.Rule.{Rule}
 use Rattle.proto_model.specs.declared.numbered.MessageInfo.{MessageInfo}
 use Rattle.proto_model.specs.declared.numbered.Body.{Body}
 use Rattle.proto_model.specs.declared.rendezvous.Part.{Part}
-use Rattle.async_shape.proofs.ProperFacts.{home_guard, remote_guard, home_guard-kinds}
-use Rattle.async_shape.proofs.ProperFacts.{remote_guard-kinds, home_output-awaits}
-use Rattle.async_shape.proofs.ProperFacts.{remote_output-awaits, message_out-output}
-use Rattle.async_shape.proofs.ProperFacts.{input-received, output-received}
+use Rattle.proto_model.proofs.ProperFacts.{home_guard, remote_guard, home_guard-kinds}
+use Rattle.proto_model.proofs.ProperFacts.{remote_guard-kinds, home_output-awaits}
+use Rattle.proto_model.proofs.ProperFacts.{remote_output-awaits, message_out-output}
+use Rattle.proto_model.proofs.ProperFacts.{input-received, output-received}
 use Rattle.controller_table.specs.declared.rows.GuardId.{GuardId}
 use Rattle.ordered_links.specs.declared.packet.Packet.TheVariants as packet
 use Rattle.async_shape.specs.Setting.{Setting, reply_to}
+use Rattle.async_shape.specs.Config.{Config, count_of}
 use Rattle.async_shape.specs.Guards.{guard_by, request_of, request_by, after_second, after_ack}
 use Rattle.async_shape.specs.Guards.{after_reply}
+use Rattle.async_shape.specs.View.{awaited_at, view_at}
 use Rattle.async_shape.specs.Phase.{is_reply, is_answer}
+use Rattle.async_shape.specs.Shape.{IsWaitingHome}
+use Rattle.async_shape.specs.declared.config.HomePlace.{HomePlace}
+use Rattle.async_shape.specs.declared.config.HomePlace.TheVariants.{Waits}
+use Rattle.async_shape.specs.declared.config.Waiting.{Waiting}
 use Rattle.async_shape.specs.declared.config.Request.{Request}
 
 -- A part of a process with this body: its state is there, and each variable is of its type.
@@ -44,6 +50,7 @@ pub record IsRequestBy (messages : List MessageInfo) (body : Body) (vars : List 
   pub gives : given messages vars rule.kind ≡ Some message
   pub request : r ≡ request_of message
 
+-- a guard that gives a request is there, and gives a message
 pub request_by-some : (messages : List MessageInfo) (body : Body) (vars : List Value) (g : GuardId)
     (r : Request) → request_by messages body vars g ≡ Some r
     → IsRequestBy messages body vars g r
@@ -69,8 +76,24 @@ request_by-is messages body vars g rule message there gives =
     λ r. option_map request_of (given messages vars r.kind) in
     ap (option_and_then give) there ∙ ap (option_map request_of) gives
 
+-- A home that waits on j by a guard that is there waits for j to answer what the guard gives.
+pub awaits-request : (setting : Setting) (c : Config) (j : ℕ) (waiting : Waiting)
+    → c.home.place ≡ Waits waiting → waiting.on ≡ j
+    → (is : IsWaitingHome setting.protocol setting.slots (count_of c) c.home c.held waiting)
+    → (view_at setting.protocol c j).awaited ≡ Some (request_of (is.message, waiting.sent))
+awaits-request setting c j waiting waits on is =
+    let protocol = setting.protocol in
+    ap (λ (place : HomePlace). awaited_at protocol c.home place j) waits
+    ∙ ap
+    (λ (b : Bool).
+    if b then request_by protocol.messages protocol.home c.home.vars waiting.by else None)
+    (eq-eqb waiting.on j on)
+    ∙ request_by-is protocol.messages protocol.home c.home.vars waiting.by is.rule
+    (is.message, waiting.sent) is.there is.sends
+
 -- ---- answers
 
+-- what a reply answers is the message whose reply it is
 is_reply-some : (p : ℕ) (reply : Option ℕ) → is_reply p reply ≡ true → reply ≡ Some p
 is_reply-some p None e = absurd (cc)
 is_reply-some p (Some r) e = ap (λ (m : ℕ). Some m) (eqb-true r p e)
@@ -97,10 +120,12 @@ module _ (body : Body) (vars : List Value) (g : GuardId) (partner : ℕ) (rule :
   abbrev pub second_part : Rule → Value → Part
   second_part next v = after_guard body first_part.vars next next.next partner v
 
+  -- the part after an ack is that after the guard
   pub after_ack-is : after_ack body vars g partner ≡ Some first_part
   after_ack-is =
       ap (option_map (λ (r : Rule). after_guard body vars r r.next partner value.Unit)) there
 
+  -- the part after a reply is that after the guard and the only one behind it
   pub after_reply-is : (next : Rule) (v : Value) → only_of (guards_of body rule.next) ≡ Some next
       → after_reply body vars g partner v ≡ Some (second_part next v)
   after_reply-is next v only =

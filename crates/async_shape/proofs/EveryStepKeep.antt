@@ -18,6 +18,7 @@ use Rattle.async_shape.proofs.ArrivalAtHomeKeep.{IsShaped-Up}
 use Rattle.async_shape.proofs.ArrivalAtRemoteKeep.{IsShaped-Down}
 
 module _ (setting : Setting) (proper : IsProper setting.protocol) where
+  -- what a step leaves has the shape
   pub IsShaped-outcome : (c : Config) (s : Step) (o : StepOutcome) → IsShaped setting c
       → outcome setting c s ≡ Some o → IsShaped setting (config_after c o)
   IsShaped-outcome c (step.HomeTau g) o shaped did =
@@ -39,17 +40,20 @@ module _ (setting : Setting) (proper : IsProper setting.protocol) where
   IsShaped-outcome c (step.Up j) o shaped did = IsShaped-Up setting proper c j o shaped did
   IsShaped-outcome c (step.Down j) o shaped did = IsShaped-Down setting proper c j o shaped did
 
+  -- so has the next configuration
   pub IsShaped-next : (c d : Config) (s : Step) → IsShaped setting c → next setting c s ≡ Some d
       → IsShaped setting d
   IsShaped-next c d s shaped did =
       let by = next-outcome setting c d s did in
       subst (IsShaped setting) (sym by.2) (IsShaped-outcome c s by.0 shaped by.1)
 
+  -- so has whichever configuration follows
   shaped_or_same : (c : Config) (s : Step) (d : Option Config) → next setting c s ≡ d
       → IsShaped setting c → IsShaped setting (unwrap_or d c)
   shaped_or_same c s None did shaped = shaped
   shaped_or_same c s (Some d) did shaped = IsShaped-next c d s shaped did
 
+  -- so has the configuration after a step, enabled or not
   pub IsShaped-after_step : (c : Config) (s : Step) → IsShaped setting c
       → IsShaped setting (after_step setting c s)
   IsShaped-after_step c s shaped = shaped_or_same c s (next setting c s) refl shaped

@@ -36,6 +36,7 @@ view_of remote awaited pair held owed = record {
   owed = owed;
 }
 
+-- equal parts are equal views
 view_of-same : {r s : RemoteState} {a b : Option Request} {k l : LinkPair} {g h : Option Held}
     {o p : Option ℕ} → r ≡ s → a ≡ b → k ≡ l → g ≡ h → o ≡ p
     → view_of r a k g o ≡ view_of s b l h p
@@ -62,6 +63,7 @@ view_at-same protocol c d q record_is awaited_is pair_is held_is owed_is =
 
 -- ---- the cases of all remotes
 
+-- equal views are in the same case
 pub Case-same : (setting : Setting) (c d : Config) (q : ℕ)
     → view_at setting.protocol d q ≡ view_at setting.protocol c q
     → Case setting (view_at setting.protocol c q) → Case setting (view_at setting.protocol d q)
@@ -75,11 +77,13 @@ HasCases setting c = (q : ℕ) → q < count_of c → Case setting (view_at sett
 abbrev pub SeesSame : Setting → Config → Config → ℕ → Type 0
 SeesSame setting c d q = view_at setting.protocol d q ≡ view_at setting.protocol c q
 
+-- each remote is in a case where all are seen as before
 pub cases-all_same : (setting : Setting) (c d : Config) → count_of d ≡ count_of c
     → ((q : ℕ) → SeesSame setting c d q) → HasCases setting c → HasCases setting d
 cases-all_same setting c d count same cases = λ q within.
     Case-same setting c d q (same q) (cases q (subst (λ (n : ℕ). q < n) count within))
 
+-- so it is where two remotes are in a case again, and all others are seen as before
 pub cases-but_two : (setting : Setting) (c d : Config) (j x : ℕ) → count_of d ≡ count_of c
     → ((q : ℕ) → q ≢ j → q ≢ x → SeesSame setting c d q)
     → Case setting (view_at setting.protocol d j) → Case setting (view_at setting.protocol d x)
@@ -94,6 +98,7 @@ cases-but_two setting c d j x count same first second cases = λ q within.
       ]
     ]
 
+-- so it is with one
 pub cases-but_one : (setting : Setting) (c d : Config) (j : ℕ) → count_of d ≡ count_of c
     → ((q : ℕ) → q ≢ j → SeesSame setting c d q) → Case setting (view_at setting.protocol d j)
     → HasCases setting c → HasCases setting d
@@ -102,21 +107,25 @@ cases-but_one setting c d j count same here cases =
 
 -- ---- the records of the remotes
 
+-- the record of another remote stays
 pub remotes-other : (remotes : List RemoteState) (j q : ℕ) (remote : RemoteState) → q ≢ j
     → slice_index_or (slice_set remotes j remote) q nobody ≡ slice_index_or remotes q nobody
 remotes-other remotes j q remote apart = get_or-set_other remotes j q remote nobody apart
 
+-- the record of this one is the new one
 pub remotes-own : (remotes : List RemoteState) (j : ℕ) (remote : RemoteState) → j < length remotes
     → slice_index_or (slice_set remotes j remote) j nobody ≡ remote
 remotes-own remotes j remote there = get_or-set_same remotes j remote nobody there
 
 -- ---- what is owed
 
+-- what is owed to another remote stays
 pub owing-other : (home : HomeState) (j q : ℕ) (debt : Option ℕ) → q ≢ j
     → owed_to (owing j debt home) q ≡ owed_to home q
 owing-other home j q debt apart =
     ap (option_and_then (λ (owed : Option ℕ). owed)) (slice_get-set_other home.owed j q debt apart)
 
+-- what is owed to this one is the new debt
 pub owing-own : (home : HomeState) (j : ℕ) (debt : Option ℕ) → j < length home.owed
     → owed_to (owing j debt home) j ≡ debt
 owing-own home j debt there =
@@ -129,6 +138,7 @@ abbrev pub IsUnawaited : ℕ → HomePlace → Type 0
 IsUnawaited q (Idle state) = Unit {0}
 IsUnawaited q (Waits waiting) = q ≢ waiting.on
 
+-- the home awaits nothing of a remote on which it doesn't wait
 pub awaited-none : (protocol : NumberedProtocol) (home : HomeState) (place : HomePlace) (q : ℕ)
     → IsUnawaited q place → awaited_at protocol home place q ≡ None
 awaited-none protocol home (Idle state) q none = refl

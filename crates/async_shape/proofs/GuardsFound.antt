@@ -1,11 +1,11 @@
 -- What is known of a guard that was found, and of the state of an idle process.
-use Rattle.std.proofs.Common.{◌≡◌, ℕ, ◌==◌, Bool, true, false, ◌&&◌, List, []}
+use Rattle.std.proofs.Common.{◌≡◌, ℕ, ◌+◌, ◌==◌, Bool, true, false, ◌&&◌, List, [], ◌∷◌}
 use Rattle.std.proofs.Common.{Option, Some, None, is_some, slice_get, refl, sym, ap, subst, ◌∙◌}
 use Rattle.std.proofs.Common.{arith, if◌then◌else◌}
-use Rattle.std.specs.Option.{option_map_or, option_and_then}
-use Rattle.std.specs.List.{position_from}
+use Rattle.std.specs.Option.{option_map, option_map_or, option_and_then}
+use Rattle.std.specs.List.{list_any, position_from}
 use Rattle.std.proofs.lemmas.Bool.{and_parts, eqb-true}
-use Rattle.std.proofs.lemmas.Option.{same_Some}
+use Rattle.std.proofs.lemmas.Option.{same_Some, none-some}
 use Rattle.rv_base.proofs.Lists.{some_when, some_map, some_and_then, position_from-passes}
 use Rattle.proto_model.specs.Guards.{guards_of, guard_at, after_guard}
 use Rattle.proto_model.specs.Values.{is_open}
@@ -28,17 +28,20 @@ use Rattle.async_shape.specs.declared.config.HomePlace.TheVariants.{Idle, Waits}
 
 -- ---- answers under a condition
 
+-- an answer under a condition is the answer, and the condition holds
 pub when_some : {X : Type 0} (b : Bool) (o : Option X) (y : X)
     → (if b then o else None) ≡ Some y → (b ≡ true) × (o ≡ Some y)
 when_some true o y answered = (refl, answered)
 when_some false o y answered = absurd (cc)
 
+-- what is not there is none
 pub is_none_then : {X : Type 0} (o : Option X) → is_some o ≡ false → o ≡ None
 is_none_then None e = refl
 is_none_then (Some x) e = absurd (cc)
 
 -- ---- guards
 
+-- the guard of a state, where the state may be missing
 guards_at : (o : Option StateInfo) (g : ℕ)
     → slice_get (option_map_or (λ s. s.rules) o []) g ≡ option_and_then (λ s. slice_get s.rules g) o
 guards_at None g = refl
@@ -49,6 +52,7 @@ pub guards_of-at : (body : Body) (state g : ℕ)
     → slice_get (guards_of body state) g ≡ guard_at body state g
 guards_of-at body state g = guards_at (slice_get body.states state) g
 
+-- a guard that is chosen at a place is the one there
 chosen-parts : (rules : List Rule) (place : ℕ) (chosen : Chosen)
     → chosen_at rules place ≡ Some chosen
     → (place ≡ chosen.number) × (slice_get rules place ≡ Some chosen.rule)
@@ -73,6 +77,38 @@ first_that-found passes rules chosen found =
       subst (λ rule. passes rule ≡ true) same first.4,
     )
 
+-- where no place is found, no item passes
+position_from-none : {X : Type 0} (test : X → Bool) (first : ℕ) (xs : List X)
+    → position_from test first xs ≡ None → list_any test xs ≡ false
+position_from-none test first [] none = refl
+position_from-none test first (x ∷ xs) none =
+    by (test x) refl (λ later. position_from-none test (first + 1) xs later)
+  where
+    by : (passes : Bool) → test x ≡ passes
+        → (position_from test (first + 1) xs ≡ None → list_any test xs ≡ false)
+        → list_any test (x ∷ xs) ≡ false
+    by true is rest = absurd (none-some first (sym (rw is at none)))
+    by false is rest = rw is (rest (rw is at none))
+
+-- where no guard is the first that passes, none passes
+pub first_that-none : (passes : Rule → Bool) (rules : List Rule) → first_that passes rules ≡ None
+    → list_any passes rules ≡ false
+first_that-none passes rules none = by (position_from passes 0 rules) refl
+  where
+    by : (place : Option ℕ) → position_from passes 0 rules ≡ place
+        → list_any passes rules ≡ false
+    by None is = position_from-none passes 0 rules is
+    by (Some place) is =
+        let first = position_from-passes passes 0 rules place is in
+        let at : first.0 ≡ place = omega (arith, first.2) in
+        let give : Rule → Chosen = λ rule. record { number = place; rule = rule } in
+        let found : first_that passes rules ≡ Some (give first.1) =
+        ap (option_and_then (chosen_at rules)) is
+        ∙ ap (λ (i : ℕ). option_map give (slice_get rules i)) (sym at)
+        ∙ ap (option_map give) first.3 in
+        absurd (none-some (give first.1) (sym none ∙ found))
+
+-- a number that is there and equal is that number
 some_place : (o : Option ℕ) (place : ℕ) → option_map_or (λ m. m == place) o false ≡ true
     → o ≡ Some place
 some_place None place e = absurd (cc)
@@ -88,6 +124,7 @@ accepts-input vars rule m e =
 
 -- ---- a local step
 
+-- a local step is a tau
 tau_is : (kind : RuleKind) → is_tau kind ≡ true → kind ≡ action.Tau
 tau_is action.Tau e = refl
 tau_is (action.Input p m bound) e = absurd (cc)
@@ -102,6 +139,7 @@ pub record IsLocalStep (body : Body) (state : ℕ) (vars : List Value) (g : ℕ)
   pub passes : is_open vars rule ≡ true
   pub outcome : after ≡ after_guard body vars rule rule.next 0 value.Unit
 
+-- a part after a local step is after a tau that is open
 pub tau_part-step : (body : Body) (p : Part) (g : ℕ) (after : Part)
     → tau_part body p g ≡ Some after → IsLocalStep body p.state p.vars g after
 tau_part-step body p g after did =
@@ -120,11 +158,13 @@ tau_part-step body p g after did =
 
 -- ---- idle
 
+-- a home with an idle state is idle there
 pub home_idle : (place : HomePlace) (state : ℕ) → home_idle_state place ≡ Some state
     → place ≡ Idle state
 home_idle (Idle s) state e = ap (λ (t : ℕ). Idle t) (same_Some s state e)
 home_idle (Waits waiting) state e = absurd (cc)
 
+-- so is a remote
 pub remote_idle : (place : Place) (state : ℕ) → idle_state place ≡ Some state → place ≡ Comm state
 remote_idle (Comm s) state e = ap (λ (t : ℕ). Comm t) (same_Some s state e)
 remote_idle (Trans g) state e = absurd (cc)

@@ -22,6 +22,7 @@ use Rattle.async_shape.proofs.LinksAfter.{links_after-other, links_after-own, li
 use Rattle.async_shape.proofs.LinksAfter.{links_after-taken_own, pair_after, pair_put, pair_left}
 use Rattle.async_shape.proofs.Frame.{view_at-of, view_at-same, SeesSame, cases-all_same}
 use Rattle.async_shape.proofs.Frame.{cases-but_one, cases-but_two}
+use Rattle.async_shape.proofs.ShapeParts.{links-there}
 
 -- the view of remote q, whose record stays, with these links, where the home stands so and holds
 -- these requests
@@ -43,6 +44,7 @@ pub record IsHomeWhole (setting : Setting) (n : ℕ) (home : HomeState) (held : 
   pub vars : AreOfKinds setting.protocol.home.vars home.vars
   pub held_right : AreHeld setting.protocol setting.slots n held
 
+-- the part for the whole has it
 pub IsHomeWhole-whole : (setting : Setting) (c : Config) → IsWhole setting c
     → IsHomeWhole setting (count_of c) c.home c.held
 IsHomeWhole-whole setting c whole = record {
@@ -52,6 +54,7 @@ IsHomeWhole-whole setting c whole = record {
   held_right = whole.held;
 }
 
+-- the part for the whole, from what it says of the home
 IsWhole-home : (setting : Setting) (c : Config) (home : HomeState) (held : List Held)
     (links : List LinkPair) → length links ≡ length c.links
     → IsHomeWhole setting (count_of c) home held → IsWhole setting c
@@ -69,16 +72,30 @@ IsWhole-home setting c home held links same part whole = record {
   held = part.held_right;
 }
 
--- The home stands so and holds these requests, and what a view has of both is as it was: the request
--- that remote q is to answer, the one that is held of it, and the message that is owed to it.
+-- The home stands so and holds these requests, and what a view has of both is as it was: the
+-- request that remote q is to answer, the one that is held of it, and the message that is owed to
+-- it.
 pub record LeavesAlone (protocol : NumberedProtocol) (c : Config) (home : HomeState)
     (held : List Held) (q : ℕ) : Type 0 where
   pub awaited : awaited_at protocol home home.place q ≡ awaited_at protocol c.home c.home.place q
   pub first : first_of q held ≡ first_of q c.held
   pub owed : owed_to home q ≡ owed_to c.home q
 
+-- the view of remote q, whose links are these, after a step of the home that leaves this, and takes
+-- a packet from this link, if from any
+pub home_moved-view : (protocol : NumberedProtocol) (c : Config) (taken : Option Link)
+    (o : HomeOutcome) (q : ℕ) (pair : LinkPair)
+    → links_at (config_after c (home_moved c taken o)).links q ≡ pair
+    → view_at protocol (config_after c (home_moved c taken o)) q
+    ≡ view_left protocol c o.home o.held q pair
+home_moved-view protocol c taken o q pair same =
+    view_at-of protocol (config_after c (home_moved c taken o)) q
+    (slice_index_or c.remotes q nobody) (awaited_at protocol o.home o.home.place q) pair
+    (first_of q o.held) (owed_to o.home q) refl refl same refl refl
+
 -- what a step of the home leaves, which takes a packet from this link, if from any
 module _ (setting : Setting) (c : Config) (taken : Option Link) (o : HomeOutcome) where
+  -- the configuration after the step
   abbrev after : Config
   after = config_after c (home_moved c taken o)
 
@@ -86,18 +103,13 @@ module _ (setting : Setting) (c : Config) (taken : Option Link) (o : HomeOutcome
   abbrev view_with : ℕ → LinkPair → View
   view_with q pair = view_left setting.protocol c o.home o.held q pair
 
-  home_moved-view : (q : ℕ) (pair : LinkPair) → links_at after.links q ≡ pair
-      → view_at setting.protocol after q ≡ view_with q pair
-  home_moved-view q pair same =
-      view_at-of setting.protocol after q (slice_index_or c.remotes q nobody)
-      (awaited_at setting.protocol o.home o.home.place q) pair (first_of q o.held)
-      (owed_to o.home q) refl refl same refl refl
-
+  -- its case, by that view
   home_moved-case : (q : ℕ) (pair : LinkPair) → links_at after.links q ≡ pair
       → Case setting (view_with q pair) → Case setting (view_at setting.protocol after q)
   home_moved-case q pair same case =
-      subst (Case setting) (sym (home_moved-view q pair same)) case
+      subst (Case setting) (sym (home_moved-view setting.protocol c taken o q pair same)) case
 
+  -- a remote that the home leaves alone, and whose links stay, is seen as before
   home_moved-other : (q : ℕ) → LeavesAlone setting.protocol c o.home o.held q
       → IsPutElsewhere q o.put → IsTakenElsewhere q taken → SeesSame setting c after q
   home_moved-other q alone not_put not_taken =
@@ -114,8 +126,7 @@ module _ (setting : Setting) (c : Config) (taken : Option Link) (o : HomeOutcome
       → IsShaped setting (config_after c (home_moved c taken o))
   unfolding IsShaped
   IsShaped-home_moved j there is_put is_taken shaped part alone case =
-      let linked : j < length c.links =
-      subst (λ (n : ℕ). j < n) (sym shaped.whole.links) there in
+      let linked = links-there setting c shaped j there in
       record {
         whole =
             IsWhole-home setting c o.home o.held after.links
@@ -140,10 +151,8 @@ module _ (setting : Setting) (c : Config) (taken : Option Link) (o : HomeOutcome
       → IsShaped setting (config_after c (home_moved c taken o))
   unfolding IsShaped
   IsShaped-home_between j x there present differ is_put is_taken shaped part alone first second =
-      let linked : j < length c.links =
-      subst (λ (n : ℕ). j < n) (sym shaped.whole.links) there in
-      let joined : x < length c.links =
-      subst (λ (n : ℕ). x < n) (sym shaped.whole.links) present in
+      let linked = links-there setting c shaped j there in
+      let joined = links-there setting c shaped x present in
       record {
         whole =
             IsWhole-home setting c o.home o.held after.links

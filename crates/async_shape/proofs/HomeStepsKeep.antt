@@ -1,5 +1,5 @@
--- A step of the home keeps the shape: a local step, a request taken, a reply or a request sent, and a
--- request dropped.
+-- A step of the home keeps the shape: a local step, a request taken, a reply or a request sent, and
+-- a request dropped.
 use Rattle.std.proofs.Common.{◌≡◌, ◌≢◌, inl, inr, ℕ, ◌<◌, ◌==◌, Bool, true, List}
 use Rattle.std.proofs.Common.{[], ◌∷◌, ◌++◌, length, Option, Some, None, refl, sym, ap, subst, ◌∙◌}
 use Rattle.std.proofs.Common.{arith, length-set, slice_get, if◌then◌else◌}
@@ -16,16 +16,16 @@ use Rattle.proto_model.specs.declared.numbered.Value.{Value}
 use Rattle.proto_model.specs.declared.numbered.Value.TheVariants as value
 use Rattle.proto_model.specs.declared.numbered.Rule.{Rule}
 use Rattle.proto_model.specs.declared.rendezvous.Part.{Part}
-use Rattle.async_shape.proofs.ProperFacts.{home_guard-gives, input-received, output-received}
-use Rattle.async_shape.proofs.ProperFacts.{message_out-output}
+use Rattle.proto_model.proofs.ProperFacts.{home_guard-gives, input-received, output-received}
+use Rattle.proto_model.proofs.ProperFacts.{message_out-output}
 use Rattle.controller_table.specs.Rows.{guard_id}
 use Rattle.slot_reserve.specs.Requests.{first_of, without_first, OneOfEach}
 use Rattle.slot_reserve.specs.declared.held.Held.{Held}
 use Rattle.slot_reserve.proofs.HeldOfRemote.{first_of-none}
 use Rattle.slot_reserve.proofs.HeldAfter.{first_of-without_other}
 use Rattle.slot_reserve.proofs.OneOfEach.{OneOfEach-without, without_first-has_none}
-use Rattle.async_shape.proofs.HeldItems.{AllByRecursion-first_of, AllByRecursion-without}
-use Rattle.async_shape.proofs.HeldItems.{length-without_first}
+use Rattle.slot_reserve.proofs.HeldItems.{AllByRecursion-first_of, AllByRecursion-without}
+use Rattle.slot_reserve.proofs.HeldItems.{length-without_first}
 use Rattle.ordered_links.specs.Link.{Down}
 use Rattle.ordered_links.specs.Lists.{links_at}
 use Rattle.ordered_links.specs.declared.packet.Packet.{Packet}
@@ -50,17 +50,18 @@ use Rattle.async_shape.proofs.HomeInversion.{TakesHeld, Pays, Asks, SendsTo, Dro
 use Rattle.async_shape.proofs.StepInversion.{HomeMoves, HomeTau-outcome, HomeTake-outcome}
 use Rattle.async_shape.proofs.StepInversion.{HomeSend-outcome, HomeDrop-outcome}
 use Rattle.async_shape.proofs.Completed.{IsPart, home_guard-part, request_by-is}
-use Rattle.async_shape.proofs.Places.{home_step-part, IsTypedMessage-given}
-use Rattle.async_shape.proofs.Places.{IsWaitingHome-asked}
-use Rattle.async_shape.proofs.Phases.{IsIn, held-phase, owed-phase, free-phase, FreePhase, FreeRests}
-use Rattle.async_shape.proofs.Phases.{FreeGoes, FreeComes}
+use Rattle.async_shape.proofs.Places.{home_step-part, IsTypedMessage-given, IsWaitingHome-asked}
+use Rattle.async_shape.proofs.Phases.{IsIn, held-phase, owed-phase, free-phase, FreePhase}
+use Rattle.async_shape.proofs.Phases.{FreeRests, FreeGoes, FreeComes}
 use Rattle.async_shape.proofs.LinksAfter.{IsPutAt, pair_after}
 use Rattle.async_shape.proofs.Frame.{owing-own, owing-other, awaited-none}
 use Rattle.async_shape.proofs.HomeMoves.{view_left, IsHomeWhole, LeavesAlone}
 use Rattle.async_shape.proofs.HomeMoves.{IsShaped-home_moved, IsShaped-home_alone}
+use Rattle.async_shape.proofs.ShapeParts.{IsShaped-whole, IsShaped-case}
 
 -- ---- what is held after a request is gone
 
+-- what is held is right without one request
 pub AreHeld-without : (protocol : NumberedProtocol) (k n j : ℕ) (held : List Held) (request : Held)
     → first_of j held ≡ Some request → AreHeld protocol k n held
     → AreHeld protocol k n (without_first j held)
@@ -76,6 +77,7 @@ AreHeld-without protocol k n j held request first are =
           are.typed;
     }
 
+-- without the one request of a remote nothing is held of it
 gone : (j : ℕ) (held : List Held) → OneOfEach held
     → option_map held_request (first_of j (without_first j held)) ≡ None
 gone j held one =
@@ -84,11 +86,13 @@ gone j held one =
 
 -- ---- what comes down
 
+-- behind an old request an answer
 pub then_answer : (old : Option Request) (answer : Packet)
     → packets_of old ++ answer ∷ [] ≡ down_list old answer None
 then_answer None answer = refl
 then_answer (Some r) answer = refl
 
+-- behind an answer a request
 then_request : (old : Option Request) (answer : Packet) (r : Request)
     → down_list old answer None ++ as_packet r ∷ [] ≡ down_list old answer (Some r)
 then_request None answer r = refl
@@ -97,9 +101,11 @@ then_request (Some o) answer r = refl
 module _ (setting : Setting) (proper : IsProper setting.protocol) (c : Config) (j : ℕ)
     (right : IsWhole setting c) (within : j < count_of c)
     (case : Case setting (view_at setting.protocol c j)) where
+  -- the protocol
   abbrev protocol : NumberedProtocol
   protocol = setting.protocol
 
+  -- the view of j
   abbrev now : View
   now = view_at setting.protocol c j
 
@@ -116,9 +122,11 @@ module _ (setting : Setting) (proper : IsProper setting.protocol) (c : Config) (
     pub alone : (q : ℕ) → q ≢ j → LeavesAlone setting.protocol c o.home o.held q
     pub again : Case setting (left_view o)
 
+  -- a remote that is there is one of 64
   below : j < 64
   below = let few = right.few_remotes in omega arith
 
+  -- the home has a debt for each remote, or none
   owed_there : j < length c.home.owed
   owed_there = subst (λ (n : ℕ). j < n) (sym right.debts) within
 
@@ -191,6 +199,7 @@ module _ (setting : Setting) (proper : IsProper setting.protocol) (c : Config) (
       idle right.home in
       is.there
 
+  -- the other remotes are left alone, where nothing is owed to them that wasn't
   others_alone : (state : ℕ) (home : HomeState) → c.home.place ≡ Idle state
       → ((q : ℕ) → awaited_at protocol home home.place q ≡ None)
       → ((q : ℕ) → q ≢ j → owed_to home q ≡ owed_to c.home q) → (q : ℕ) → q ≢ j
@@ -201,6 +210,7 @@ module _ (setting : Setting) (proper : IsProper setting.protocol) (c : Config) (
     owed = owes q apart;
   }
 
+  -- a request that is taken keeps the shape, with an ack or a debt
   taken_keeps : (state : ℕ) (request : Held) (old : Option Request) (p : Part) (reply : Option ℕ)
       → c.home.place ≡ Idle state → first_of j c.held ≡ Some request
       → IsIn setting now (RequestIsHeld (held_request request) old) → IsPart protocol.home p
@@ -208,21 +218,25 @@ module _ (setting : Setting) (proper : IsProper setting.protocol) (c : Config) (
       → Keeps (request_taken c.held j (home_at c.home p) reply)
   taken_keeps state request old p None idle first is part no_reply =
       let home = home_at c.home p in
-      let are = AreHeld-without protocol setting.slots (count_of c) j c.held request first right.held in
+      let are = AreHeld-without protocol setting.slots (count_of c) j c.held request first
+      right.held in
       record {
         put = refl;
-        whole = idle_whole home p.state (without_first j c.held) right.debts refl part.within part.kinds are;
+        whole = idle_whole home p.state (without_first j c.held) right.debts refl part.within
+            part.kinds are;
         alone = others_alone state home idle (λ q. refl) (λ q apart. refl);
         again = answered_case (held_request request) old home packet.Ack is refl refl
             (ap (λ (r : Option ℕ). is_answer r packet.Ack) no_reply) tt;
       }
   taken_keeps state request old p (Some m) idle first is part reply =
       let home = owing j (Some m) (home_at c.home p) in
-      let are = AreHeld-without protocol setting.slots (count_of c) j c.held request first right.held in
+      let are = AreHeld-without protocol setting.slots (count_of c) j c.held request first
+      right.held in
       let debts = length-set c.home.owed j (Some m) ∙ right.debts in
       record {
         put = tt;
-        whole = idle_whole home p.state (without_first j c.held) debts refl part.within part.kinds are;
+        whole = idle_whole home p.state (without_first j c.held) debts refl part.within part.kinds
+            are;
         alone =
             others_alone state home idle (λ q. refl)
             (λ q apart. owing-other (home_at c.home p) j q (Some m) apart);
@@ -249,7 +263,9 @@ module _ (setting : Setting) (proper : IsProper setting.protocol) (c : Config) (
         };
       }
 
-  pub HomeTake-keeps : (o : HomeOutcome) → TakesHeld setting (count_of c) c.home c.held j o → Keeps o
+  -- a request that the home takes keeps the shape
+  pub HomeTake-keeps : (o : HomeOutcome) → TakesHeld setting (count_of c) c.home c.held j o
+      → Keeps o
   HomeTake-keeps o is =
       let request = is.request in
       let held = held-phase setting now (held_request request) case.in_phase
@@ -260,14 +276,17 @@ module _ (setting : Setting) (proper : IsProper setting.protocol) (c : Config) (
       let part =
       home_guard-part protocol proper is.state is.guard.number is.guard.rule c.home.vars j
       request.value is.there right.home_vars below
-      (input-received protocol.messages is.guard.rule.kind request.message request.value is.input typed.value) in
+      (input-received protocol.messages is.guard.rule.kind request.message request.value is.input
+      typed.value) in
       let after =
       after_guard protocol.home c.home.vars is.guard.rule is.guard.rule.next j request.value in
       subst Keeps (sym is.outcome)
       (taken_keeps is.state request held.0 after (reply_to setting request.message) is.idle is.first
       held.1 part refl)
 
-  pub HomeDrop-keeps : (o : HomeOutcome) → DropsHeld setting (count_of c) c.home c.held j o → Keeps o
+  -- a request that the home drops keeps the shape
+  pub HomeDrop-keeps : (o : HomeOutcome) → DropsHeld setting (count_of c) c.home c.held j o
+      → Keeps o
   HomeDrop-keeps o is =
       let request = is.request in
       let held = held-phase setting now (held_request request) case.in_phase
@@ -288,6 +307,7 @@ module _ (setting : Setting) (proper : IsProper setting.protocol) (c : Config) (
 
   -- ---- a reply is sent
 
+  -- a reply that pays a debt keeps the shape
   pays_keeps : (state g : ℕ) (rule : Rule) (message : ℕ × Value) (o : HomeOutcome)
       → c.home.place ≡ Idle state → guard_at protocol.home state g ≡ Some rule
       → given protocol.messages c.home.vars rule.kind ≡ Some message
@@ -347,8 +367,12 @@ module _ (setting : Setting) (proper : IsProper setting.protocol) (c : Config) (
 
   -- ---- a request is sent
 
+  -- what is owed to j stays where all debts stay
   owed_same : (home : HomeState) → home.owed ≡ c.home.owed → owed_to home j ≡ owed_to c.home j
-  owed_same home owes = ap (λ (owed : List (Option ℕ)). option_and_then (λ (debt : Option ℕ). debt) (slice_get owed j)) owes
+  owed_same home owes =
+      ap
+      (λ (owed : List (Option ℕ)).
+      option_and_then (λ (debt : Option ℕ). debt) (slice_get owed j)) owes
 
   -- the phase behind a request of the home
   asked_phase : (home : HomeState) (r : Request) → awaited_at protocol home home.place j ≡ Some r
@@ -392,6 +416,7 @@ module _ (setting : Setting) (proper : IsProper setting.protocol) (c : Config) (
     fits = is.fits;
   }
 
+  -- a request of the home keeps the shape
   asks_keeps : (state g : ℕ) (rule : Rule) (message : ℕ × Value) (o : HomeOutcome)
       → c.home.place ≡ Idle state → guard_at protocol.home state g ≡ Some rule
       → is_open c.home.vars rule ≡ true → may_meet c.home.vars rule.kind j ≡ true
@@ -443,6 +468,7 @@ module _ (setting : Setting) (proper : IsProper setting.protocol) (c : Config) (
         };
       })
 
+  -- an output of the home keeps the shape
   pub HomeSend-keeps : (g : ℕ) (o : HomeOutcome)
       → SendsTo setting (count_of c) c.home c.held g j o → Keeps o
   HomeSend-keeps g o is = elim is.how [
@@ -455,13 +481,13 @@ module _ (setting : Setting) (proper : IsProper setting.protocol) (c : Config) (
 
 module _ (setting : Setting) (proper : IsProper setting.protocol) (c : Config) (o : StepOutcome)
     (shaped : IsShaped setting c) where
+  -- the part for the whole
   whole_of : IsWhole setting c
-  unfolding IsShaped
-  whole_of = shaped.whole
+  whole_of = IsShaped-whole setting c shaped
 
+  -- the case of a remote
   case_of : (j : ℕ) → j < count_of c → Case setting (view_at setting.protocol c j)
-  unfolding IsShaped
-  case_of j within = shaped.cases j within
+  case_of = IsShaped-case setting c shaped
 
   -- a step of an idle home keeps the shape where it keeps what is said of j
   kept_with : (j : ℕ) (within : j < count_of c) (P : HomeOutcome → Type 0) → HomeMoves c None P o
@@ -471,9 +497,10 @@ module _ (setting : Setting) (proper : IsProper setting.protocol) (c : Config) (
   kept_with j within P moves keeps =
       let kept = keeps moves.left moves.is in
       subst (λ (so : StepOutcome). IsShaped setting (config_after c so)) (sym moves.outcome)
-      (IsShaped-home_moved setting c None moves.left j within kept.put tt shaped kept.whole kept.alone
-      kept.again)
+      (IsShaped-home_moved setting c None moves.left j within kept.put tt shaped kept.whole
+      kept.alone kept.again)
 
+  -- A request that is taken keeps the shape.
   pub IsShaped-HomeTake : (j : ℕ) → outcome setting c (step.HomeTake j) ≡ Some o
       → IsShaped setting (config_after c o)
   IsShaped-HomeTake j did =
@@ -481,6 +508,7 @@ module _ (setting : Setting) (proper : IsProper setting.protocol) (c : Config) (
       kept_with j at.0 (TakesHeld setting (count_of c) c.home c.held j) at.1
       (HomeTake-keeps setting proper c j whole_of at.0 (case_of j at.0))
 
+  -- A request that is dropped keeps the shape.
   pub IsShaped-HomeDrop : (j : ℕ) → outcome setting c (step.HomeDrop j) ≡ Some o
       → IsShaped setting (config_after c o)
   IsShaped-HomeDrop j did =
@@ -488,6 +516,7 @@ module _ (setting : Setting) (proper : IsProper setting.protocol) (c : Config) (
       kept_with j at.0 (DropsHeld setting (count_of c) c.home c.held j) at.1
       (HomeDrop-keeps setting proper c j whole_of at.0 (case_of j at.0))
 
+  -- An output of the home keeps the shape.
   pub IsShaped-HomeSend : (g j : ℕ) → outcome setting c (step.HomeSend g j) ≡ Some o
       → IsShaped setting (config_after c o)
   IsShaped-HomeSend g j did =
@@ -495,6 +524,7 @@ module _ (setting : Setting) (proper : IsProper setting.protocol) (c : Config) (
       kept_with j at.0 (SendsTo setting (count_of c) c.home c.held g j) at.1
       (HomeSend-keeps setting proper c j whole_of at.0 (case_of j at.0) g)
 
+  -- A local step of the home keeps the shape.
   pub IsShaped-HomeTau : (g : ℕ) → outcome setting c (step.HomeTau g) ≡ Some o
       → IsShaped setting (config_after c o)
   IsShaped-HomeTau g did =
@@ -502,7 +532,8 @@ module _ (setting : Setting) (proper : IsProper setting.protocol) (c : Config) (
       let is = moves.is in
       let right = whole_of in
       let part =
-      home_step-part setting.protocol is.state g c.home.vars is.after proper is.step right.home_vars in
+      home_step-part setting.protocol is.state g c.home.vars is.after proper is.step
+      right.home_vars in
       let home = home_at c.home is.after in
       let left : HomeOutcome = at_home home c.held None in
       let kept =

@@ -1,8 +1,7 @@
 -- The links after a step: those of the remote on whose links it puts and from whose links it takes,
 -- and those of all others.
-use Rattle.std.proofs.Common.{◌≡◌, ◌≢◌, ◌<◌, ℕ, List, [], ◌∷◌, ◌++◌, length, drop, Option}
-use Rattle.std.proofs.Common.{Some, None}
-use Rattle.std.proofs.Common.{refl, sym, ap, subst, ◌∙◌}
+use Rattle.std.proofs.Common.{◌≡◌, ◌≢◌, ◌<◌, ℕ, List, [], ◌∷◌, ◌++◌, length, drop, Option, Some}
+use Rattle.std.proofs.Common.{None, refl, sym, ap, subst, ◌∙◌}
 use Rattle.ordered_links.specs.Link.{Link, Up, Down}
 use Rattle.ordered_links.specs.Lists.{LinkPair, links_at, packets_on, after_put, after_take}
 use Rattle.ordered_links.specs.declared.packet.Packet.{Packet}
@@ -33,10 +32,12 @@ abbrev pub IsTakenElsewhere : ℕ → Option Link → Type 0
 IsTakenElsewhere q None = Unit {0}
 IsTakenElsewhere q (Some link) = q ≢ remote_of link
 
+-- what is put for one remote is put elsewhere for any other
 pub put-elsewhere : (j q : ℕ) (put : Option Put) → q ≢ j → IsPutAt j put → IsPutElsewhere q put
 put-elsewhere j q None apart at = tt
 put-elsewhere j q (Some put) apart at = λ same. apart (same ∙ at)
 
+-- what is taken from one remote is taken elsewhere for any other
 pub taken-elsewhere : (j q : ℕ) (taken : Option Link) → q ≢ j → IsTakenAt j taken
     → IsTakenElsewhere q taken
 taken-elsewhere j q None apart at = tt
@@ -44,18 +45,21 @@ taken-elsewhere j q (Some link) apart at = λ same. apart (same ∙ at)
 
 -- ---- how many links there are
 
+-- a put keeps the number of links
 links_put-count : (put : Option Put) (links : List LinkPair)
     → length (links_put put links) ≡ length links
 links_put-count None links = refl
 links_put-count (Some put) links =
     with_packets-count put.on (packets_on put.on links ++ put.packet ∷ []) links
 
+-- so does a take
 links_left-count : (taken : Option Link) (links : List LinkPair)
     → length (links_left taken links) ≡ length links
 links_left-count None links = refl
 links_left-count (Some link) links =
     with_packets-count link (drop 1 (packets_on link links)) links
 
+-- so do both
 pub links_after-count : (put : Option Put) (taken : Option Link) (links : List LinkPair)
     → length (links_after put taken links) ≡ length links
 links_after-count put taken links =
@@ -63,18 +67,21 @@ links_after-count put taken links =
 
 -- ---- the links of another remote
 
+-- a put elsewhere leaves the links of a remote
 links_put-other : (put : Option Put) (links : List LinkPair) (q : ℕ) → IsPutElsewhere q put
     → links_at (links_put put links) q ≡ links_at links q
 links_put-other None links q elsewhere = refl
 links_put-other (Some put) links q elsewhere =
     with_packets-other put.on (packets_on put.on links ++ put.packet ∷ []) links q elsewhere
 
+-- so does a take elsewhere
 links_left-other : (taken : Option Link) (links : List LinkPair) (q : ℕ)
     → IsTakenElsewhere q taken → links_at (links_left taken links) q ≡ links_at links q
 links_left-other None links q elsewhere = refl
 links_left-other (Some link) links q elsewhere =
     with_packets-other link (drop 1 (packets_on link links)) links q elsewhere
 
+-- so do both
 pub links_after-other : (put : Option Put) (taken : Option Link) (links : List LinkPair) (q : ℕ)
     → IsPutElsewhere q put → IsTakenElsewhere q taken
     → links_at (links_after put taken links) q ≡ links_at links q
@@ -108,6 +115,7 @@ pair_left (Some link) pair = pair_without link pair
 abbrev pub pair_after : Option Put → Option Link → LinkPair → LinkPair
 pair_after put taken pair = pair_left taken (pair_put put pair)
 
+-- the links of the remote for whom a packet is put
 after_put-own : (link : Link) (packet : Packet) (links : List LinkPair)
     → remote_of link < length links
     → links_at (after_put link packet links) (remote_of link)
@@ -117,6 +125,7 @@ after_put-own (Up j) packet links there =
 after_put-own (Down j) packet links there =
     with_packets-down j ((links_at links j).down ++ packet ∷ []) links there
 
+-- the links of the remote from whom a packet is taken
 after_take-own : (link : Link) (links : List LinkPair) → remote_of link < length links
     → links_at (after_take link links) (remote_of link)
     ≡ pair_without link (links_at links (remote_of link))
@@ -124,6 +133,7 @@ after_take-own (Up j) links there = with_packets-up j (drop 1 (links_at links j)
 after_take-own (Down j) links there =
     with_packets-down j (drop 1 (links_at links j).down) links there
 
+-- so it is of what is put, if anything
 pub links_put-own : (put : Option Put) (links : List LinkPair) (j : ℕ) → IsPutAt j put
     → j < length links → links_at (links_put put links) j ≡ pair_put put (links_at links j)
 links_put-own None links j at there = refl
@@ -132,6 +142,7 @@ links_put-own (Some put) links j at there =
     ≡ pair_with put.on put.packet (links_at links i)) at
     (after_put-own put.on put.packet links (subst (λ (i : ℕ). i < length links) (sym at) there))
 
+-- so it is of what is taken, if anything
 pub links_left-own : (taken : Option Link) (links : List LinkPair) (j : ℕ) → IsTakenAt j taken
     → j < length links → links_at (links_left taken links) j ≡ pair_left taken (links_at links j)
 links_left-own None links j at there = refl
@@ -139,6 +150,7 @@ links_left-own (Some link) links j at there =
     subst (λ (i : ℕ). links_at (after_take link links) i ≡ pair_without link (links_at links i)) at
     (after_take-own link links (subst (λ (i : ℕ). i < length links) (sym at) there))
 
+-- so it is of both
 pub links_after-own : (put : Option Put) (taken : Option Link) (links : List LinkPair) (j : ℕ)
     → IsPutAt j put → IsTakenAt j taken → j < length links
     → links_at (links_after put taken links) j ≡ pair_after put taken (links_at links j)

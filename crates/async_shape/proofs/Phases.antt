@@ -1,13 +1,14 @@
 -- The phase of a remote, read off a sign: what is held of it or owed to it, what its slot has,
 -- where it stands, whether the home waits on it, and which packet is the first on a link.
-use Rattle.std.proofs.Common.{◌≡◌, ℕ, Bool, true, false, List, [], ◌∷◌, Option, Some, None}
-use Rattle.std.proofs.Common.{sym, ap, subst, subst₂, ◌∙◌}
+use Rattle.std.proofs.Common.{◌≡◌, ℕ, true, false, List, [], ◌∷◌, Option, Some, None}
+use Rattle.std.proofs.Common.{drop, sym, ap, subst, subst₂, ◌∙◌}
 use Rattle.std.proofs.lemmas.Option.{same_Some}
 use Rattle.proto_model.specs.Numbered.{NumberedProtocol}
 use Rattle.proto_model.specs.declared.numbered.Value.{Value}
 use Rattle.controller_table.specs.declared.rows.GuardId.{GuardId}
 use Rattle.controller_table.specs.declared.rows.Place.{Place}
 use Rattle.controller_table.specs.declared.rows.Place.TheVariants.{Comm, Trans, Due}
+use Rattle.ordered_links.specs.Lists.{first_packet}
 use Rattle.ordered_links.specs.declared.packet.Packet.{Packet}
 use Rattle.ordered_links.specs.declared.packet.Packet.TheVariants as packet
 use Rattle.async_shape.specs.Setting.{Setting, reply_to}
@@ -17,8 +18,8 @@ use Rattle.async_shape.specs.Phase.{Phase, Resting, RequestComes, RequestInSlot,
 use Rattle.async_shape.specs.Phase.{ReplyIsDue, RequestGoes, RequestsCross, RequestCrossed}
 use Rattle.async_shape.specs.Phase.{AnswerThenRequestGo, RequestIsHeld, AnswerComes, ReplyIsOwed}
 use Rattle.async_shape.specs.Phase.{as_packet, packets_of, down_list, Has, signs_of, Fits}
-use Rattle.async_shape.specs.Phase.{IsInPhase}
-use Rattle.async_shape.specs.Phase.{is_idle_place, is_answer, waits_at, due_at, IsIdle}
+use Rattle.async_shape.specs.Phase.{IsInPhase, is_idle_place, is_answer, waits_at, due_at, IsIdle}
+use Rattle.async_shape.specs.Bounded.{is_request}
 use Rattle.async_shape.specs.declared.config.Request.{Request}
 
 -- the view is in this phase
@@ -26,51 +27,47 @@ pub record IsIn (setting : Setting) (v : View) (phase : Phase) : Type 0 where
   pub has : Has v (signs_of phase)
   pub fits : Fits setting phase v.remote
 
-pub IsInPhase-is : (setting : Setting) (v : View) (phase : Phase) → IsIn setting v phase
-    → IsInPhase setting v
-IsInPhase-is setting v phase is = record { phase = phase; has = is.has; fits = is.fits }
-
--- the packet is a request
-abbrev pub is_request : Packet → Bool
-is_request (packet.Request m v) = true
-is_request packet.Ack = false
-is_request packet.Nack = false
-is_request (packet.Reply p v) = false
-
 -- ---- what can't be at once
 
+-- an idle remote doesn't wait
 idle-not_waiting : (place : Place) (g : GuardId) → is_idle_place place ≡ true → place ≡ Trans g → ⊥
 idle-not_waiting (Comm state) g idle waits = cc
 idle-not_waiting (Trans h) g idle waits = cc
 idle-not_waiting (Due h) g idle waits = cc
 
+-- an idle remote is not due
 idle-not_due : (place : Place) (g : GuardId) → is_idle_place place ≡ true → place ≡ Due g → ⊥
 idle-not_due (Comm state) g idle due = cc
 idle-not_due (Trans h) g idle due = cc
 idle-not_due (Due h) g idle due = cc
 
+-- a remote that waits is not idle
 waiting-not_idle : (protocol : NumberedProtocol) (vars : List Value) (place : Place) (q : Request)
     → waits_at protocol vars place ≡ Some q → is_idle_place place ≡ true → ⊥
 waiting-not_idle protocol vars (Comm state) q waits idle = cc
 waiting-not_idle protocol vars (Trans h) q waits idle = cc
 waiting-not_idle protocol vars (Due h) q waits idle = cc
 
+-- a remote that waits is not due
 waiting-not_due : (protocol : NumberedProtocol) (vars : List Value) (place : Place) (q : Request)
     (g : GuardId) → waits_at protocol vars place ≡ Some q → place ≡ Due g → ⊥
 waiting-not_due protocol vars (Comm state) q g waits due = cc
 waiting-not_due protocol vars (Trans h) q g waits due = cc
 waiting-not_due protocol vars (Due h) q g waits due = cc
 
+-- a remote that is due is not idle
 due-not_idle : (protocol : NumberedProtocol) (place : Place) (p : ℕ)
     → due_at protocol place ≡ Some p → is_idle_place place ≡ true → ⊥
 due-not_idle protocol (Comm state) p due idle = cc
 due-not_idle protocol (Trans h) p due idle = cc
 due-not_idle protocol (Due h) p due idle = cc
 
+-- an empty link has no first packet
 empty-not_first : (packets rest : List Packet) (first : Packet)
     → packets ≡ [] → packets ≡ first ∷ rest → ⊥
 empty-not_first packets rest first empty begins = cc
 
+-- no answer is a request
 request-no_answer : (reply : Option ℕ) (answer : Packet) (q : Request)
     → is_answer reply answer ≡ true → answer ≡ as_packet q → ⊥
 request-no_answer reply (packet.Request m v) q answers is = cc
@@ -78,12 +75,20 @@ request-no_answer reply packet.Ack q answers is = cc
 request-no_answer reply packet.Nack q answers is = cc
 request-no_answer reply (packet.Reply p v) q answers is = cc
 
+-- what is no request is not the packet of one
 request-is_request : (first : Packet) (q : Request)
     → is_request first ≡ false → first ≡ as_packet q → ⊥
 request-is_request (packet.Request m v) q none is = cc
 request-is_request packet.Ack q none is = cc
 request-is_request packet.Nack q none is = cc
 request-is_request (packet.Reply p v) q none is = cc
+
+-- a list of packets that has a first one is that one and the rest
+pub first-rest : (packets : List Packet) (first : Packet) → first_packet packets ≡ Some first
+    → packets ≡ first ∷ drop 1 packets
+first-rest [] first e = absurd (cc)
+first-rest (packet ∷ packets) first e =
+    ap (λ (p : Packet). p ∷ packets) (same_Some packet first e)
 
 -- a request is told by its packet
 pub same_request : (a b : Request) → as_packet a ≡ as_packet b → a ≡ b
@@ -143,6 +148,7 @@ module _ (setting : Setting) (v : View) where
   abbrev pub HoldsRequest : Request → Type 0
   HoldsRequest q = (old : Option Request) × IsIn setting v (RequestIsHeld q old)
 
+  -- by the phase
   held-by : (phase : Phase) (q : Request) → Has v (signs_of phase) → Fits setting phase v.remote
       → v.held ≡ Some q → HoldsRequest q
   held-by (RequestIsHeld p old) q has fits held =
@@ -150,6 +156,7 @@ module _ (setting : Setting) (v : View) where
       subst HoldsRequest same (old, record { has = has; fits = fits })
   held-by phase q has fits held = absurd (cc)
 
+  -- a remote of which a request is held is in that phase
   pub held-phase : (q : Request) → IsInPhase setting v → v.held ≡ Some q → HoldsRequest q
   held-phase q is held = held-by is.phase q is.has is.fits held
 
@@ -157,6 +164,7 @@ module _ (setting : Setting) (v : View) where
   abbrev pub OwesReply : ℕ → Type 0
   OwesReply p = (q : Request) × (old : Option Request) × IsIn setting v (ReplyIsOwed q old p)
 
+  -- by the phase
   owed-by : (phase : Phase) (p : ℕ) → Has v (signs_of phase) → Fits setting phase v.remote
       → v.owed ≡ Some p → OwesReply p
   owed-by (ReplyIsOwed q old r) p has fits owed =
@@ -164,6 +172,7 @@ module _ (setting : Setting) (v : View) where
       subst OwesReply same (q, old, record { has = has; fits = fits })
   owed-by phase p has fits owed = absurd (cc)
 
+  -- a remote to which a reply is owed is in that phase
   pub owed-phase : (p : ℕ) → IsInPhase setting v → v.owed ≡ Some p → OwesReply p
   owed-phase p is owed = owed-by is.phase p is.has is.fits owed
 
@@ -171,6 +180,7 @@ module _ (setting : Setting) (v : View) where
   abbrev pub HasInSlot : Request → Type 0
   HasInSlot r = IsIn setting v (RequestInSlot r)
 
+  -- by the phase
   slot-by : (phase : Phase) (r : Request) → Has v (signs_of phase) → Fits setting phase v.remote
       → v.remote.slot ≡ Some r → HasInSlot r
   slot-by (RequestInSlot s) r has fits slot =
@@ -178,6 +188,7 @@ module _ (setting : Setting) (v : View) where
       subst HasInSlot same (record { has = has; fits = fits })
   slot-by phase r has fits slot = absurd (cc)
 
+  -- a remote with a request in its slot is in that phase
   pub slot-phase : (r : Request) → IsInPhase setting v → v.remote.slot ≡ Some r → HasInSlot r
   slot-phase r is slot = slot-by is.phase r is.has is.fits slot
 
@@ -185,6 +196,7 @@ module _ (setting : Setting) (v : View) where
   abbrev pub IsDueToReply : Type 0
   IsDueToReply = (r : Request) × IsIn setting v (ReplyIsDue r)
 
+  -- by the phase
   due-by : (phase : Phase) (g : GuardId) → Has v (signs_of phase) → Fits setting phase v.remote
       → v.remote.place ≡ Due g → IsDueToReply
   due-by Resting g has fits due = absurd (idle-not_due v.remote.place g fits due)
@@ -207,9 +219,11 @@ module _ (setting : Setting) (v : View) where
   due-by (ReplyIsOwed q old p) g has fits due =
       absurd (waiting-not_due setting.protocol v.remote.vars v.remote.place q g fits.0 due)
 
+  -- a remote that is due to reply is in that phase
   pub due-phase : (g : GuardId) → IsInPhase setting v → v.remote.place ≡ Due g → IsDueToReply
   due-phase g is due = due-by is.phase g is.has is.fits due
 
+  -- by the phase
   idle-by : (phase : Phase) → Has v (signs_of phase) → Fits setting phase v.remote
       → IsIdle v.remote → IdlePhase setting v
   idle-by Resting has fits idle = Rests (record { has = has; fits = fits })
@@ -234,9 +248,11 @@ module _ (setting : Setting) (v : View) where
   idle-by (ReplyIsOwed q old p) has fits idle =
       absurd (waiting-not_idle setting.protocol v.remote.vars v.remote.place q fits.0 idle)
 
+  -- an idle remote is in one of these
   pub idle-phase : IsInPhase setting v → IsIdle v.remote → IdlePhase setting v
   idle-phase is idle = idle-by is.phase is.has is.fits idle
 
+  -- by the phase
   free-by : (phase : Phase) → Has v (signs_of phase) → Fits setting phase v.remote
       → v.awaited ≡ None → v.held ≡ None → v.owed ≡ None → FreePhase setting v
   free-by Resting has fits free unheld unowed = FreeRests (record { has = has; fits = fits })
@@ -253,34 +269,12 @@ module _ (setting : Setting) (v : View) where
 
   -- ---- what comes up first
 
-  -- nothing is held of the remote or owed to it
-  abbrev pub IsAlone : Type 0
-  IsAlone = (v.held ≡ None) × (v.owed ≡ None)
-
-  up_alone-by : (phase : Phase) (first : Packet) (rest : List Packet) → Has v (signs_of phase)
-      → v.up ≡ first ∷ rest → IsAlone
-  up_alone-by (RequestIsHeld q old) first rest has up = absurd (cc)
-  up_alone-by (ReplyIsOwed q old p) first rest has up = absurd (cc)
-  up_alone-by phase first rest has up = (has.held, has.owed)
-
-  pub up-alone : (first : Packet) (rest : List Packet) → IsInPhase setting v
-      → v.up ≡ first ∷ rest → IsAlone
-  up-alone first rest is up = up_alone-by is.phase first rest is.has up
-
-  awaited_alone-by : (phase : Phase) (r : Request) → Has v (signs_of phase)
-      → v.awaited ≡ Some r → IsAlone
-  awaited_alone-by (RequestIsHeld q old) r has awaited = absurd (cc)
-  awaited_alone-by (ReplyIsOwed q old p) r has awaited = absurd (cc)
-  awaited_alone-by phase r has awaited = (has.held, has.owed)
-
-  pub awaited-alone : (r : Request) → IsInPhase setting v → v.awaited ≡ Some r → IsAlone
-  awaited-alone r is awaited = awaited_alone-by is.phase r is.has awaited
-
   -- this packet is the remote's request, and nothing follows it
   abbrev pub SendsRequest : Packet → List Packet → Type 0
   SendsRequest first rest =
       (q : Request) × (first ≡ as_packet q) × (rest ≡ []) × IsIn setting v (RequestGoes q)
 
+  -- by the phase
   up_free-by : (phase : Phase) (first : Packet) (rest : List Packet) → Has v (signs_of phase)
       → Fits setting phase v.remote → v.awaited ≡ None → v.up ≡ first ∷ rest
       → SendsRequest first rest
@@ -298,6 +292,7 @@ module _ (setting : Setting) (v : View) where
   abbrev pub CrossesFirst : Request → Request → List Packet → Type 0
   CrossesFirst r q rest = (rest ≡ []) × CrossingPhase setting v q r
 
+  -- by the phase
   up_request-by : (phase : Phase) (r q : Request) (rest : List Packet) → Has v (signs_of phase)
       → Fits setting phase v.remote → v.awaited ≡ Some r → v.up ≡ as_packet q ∷ rest
       → CrossesFirst r q rest
@@ -325,6 +320,7 @@ module _ (setting : Setting) (v : View) where
       absurd (request-no_answer (reply_to setting s.message) answer q fits.1 first)
   up_request-by phase r q rest has fits awaited up = absurd (cc)
 
+  -- a request comes up first from the remote on which the home waits
   pub up_request-phase : (r q : Request) (rest : List Packet) → IsInPhase setting v
       → v.awaited ≡ Some r → v.up ≡ as_packet q ∷ rest → CrossesFirst r q rest
   up_request-phase r q rest is awaited up =
@@ -334,6 +330,7 @@ module _ (setting : Setting) (v : View) where
   abbrev Answering : List Packet → Request → Packet → Type 0
   Answering rest r first = AnsweringPhase setting v r first rest
 
+  -- by the phase
   up_answer-by : (phase : Phase) (r : Request) (first : Packet) (rest : List Packet)
       → Has v (signs_of phase) → Fits setting phase v.remote → v.awaited ≡ Some r
       → is_request first ≡ false → v.up ≡ first ∷ rest → Answering rest r first
@@ -371,6 +368,7 @@ module _ (setting : Setting) (v : View) where
   GetsRequest first rest =
       (r : Request) × (first ≡ as_packet r) × (rest ≡ []) × IsIn setting v (RequestComes r)
 
+  -- by the phase of an idle remote
   down_idle-by : (first : Packet) (rest : List Packet) → IdlePhase setting v
       → v.down ≡ first ∷ rest → GetsRequest first rest
   down_idle-by first rest (Rests is) down =
@@ -392,6 +390,7 @@ module _ (setting : Setting) (v : View) where
   abbrev Old : List Packet → Request → Type 0
   Old rest old = OldPhase setting v old rest
 
+  -- by the phase
   down_request-by : (phase : Phase) (g : GuardId) (old : Request) (rest : List Packet)
       → Has v (signs_of phase) → Fits setting phase v.remote → v.remote.place ≡ Trans g
       → v.down ≡ as_packet old ∷ rest → Old rest old
@@ -444,6 +443,7 @@ module _ (setting : Setting) (v : View) where
       (q : Request) × (rest ≡ packets_of awaited)
       × IsIn setting v (AnswerComes q None first awaited)
 
+  -- by the phase
   down_answer-by : (phase : Phase) (first : Packet) (rest : List Packet) → Has v (signs_of phase)
       → Fits setting phase v.remote → is_request first ≡ false → v.down ≡ first ∷ rest
       → GetsAnswer rest first v.awaited

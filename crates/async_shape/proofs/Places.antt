@@ -4,7 +4,6 @@ use Rattle.std.proofs.Common.{◌≡◌, ℕ, ◌+◌, ◌<◌, ◌≤◌, true,
 use Rattle.std.proofs.Common.{slice_get, refl, sym, ap, subst, ◌∙◌, arith}
 use Rattle.std.specs.Option.{option_and_then}
 use Rattle.std.proofs.lemmas.Option.{same_Some}
-use Rattle.rv_base.proofs.Lists.{some_and_then}
 use Rattle.proto_model.specs.Numbered.{NumberedProtocol}
 use Rattle.proto_model.specs.Proper.{IsProper, is_output_kind}
 use Rattle.proto_model.specs.Guards.{guards_of, guard_at}
@@ -16,7 +15,7 @@ use Rattle.proto_model.specs.declared.numbered.Value.TheVariants as value
 use Rattle.proto_model.specs.declared.numbered.RuleKind.{RuleKind}
 use Rattle.proto_model.specs.declared.numbered.Rule.{Rule}
 use Rattle.proto_model.specs.declared.rendezvous.Part.{Part}
-use Rattle.async_shape.proofs.ProperFacts.{active-only, LeadsToReply, IsGiven, tau-received}
+use Rattle.proto_model.proofs.ProperFacts.{active-only, LeadsToReply, IsGiven, tau-received}
 use Rattle.controller_table.specs.Rows.{guard_id}
 use Rattle.controller_table.specs.declared.rows.GuardId.{GuardId}
 use Rattle.controller_table.specs.declared.rows.Place.{Place}
@@ -34,7 +33,9 @@ use Rattle.async_shape.proofs.GuardsFound.{guards_of-at, IsLocalStep}
 use Rattle.async_shape.proofs.Completed.{IsPart, IsRequestBy, request_by-some, request_by-is}
 use Rattle.async_shape.proofs.Completed.{home_guard-part, remote_guard-part}
 
-pair-parts : (message : ℕ × Value) → ◌≡◌ {A = Option (ℕ × Value)} (Some message) (Some (message.0, message.1))
+-- a pair is made of its parts
+pair-parts : (message : ℕ × Value)
+    → ◌≡◌ {A = Option (ℕ × Value)} (Some message) (Some (message.0, message.1))
 pair-parts (m, v) = refl
 
 module _ (protocol : NumberedProtocol) where
@@ -53,6 +54,7 @@ module _ (protocol : NumberedProtocol) where
       → IsActiveGuard protocol (guard_id rule.next 0)
   IsActiveGuard-owed p rule owes = (owes.next, owes.one.guards, refl, owes.output)
 
+  -- the guard of an active state is there
   active-at : (g : GuardId) (active : IsActiveGuard protocol g)
       → guard_by protocol.remote g ≡ Some active.0
   active-at g active =
@@ -71,6 +73,7 @@ module _ (protocol : NumberedProtocol) where
         subst (λ (r : Rule). is_output_kind r.kind ≡ true) same active.3,
       )
 
+  -- so it is, and it is an output
   pub IsActiveGuard-there : (g : GuardId) → IsActiveGuard protocol g
       → (rule : Rule) × (guard_by protocol.remote g ≡ Some rule)
       × (is_output_kind rule.kind ≡ true)
@@ -78,6 +81,7 @@ module _ (protocol : NumberedProtocol) where
 
   -- ---- the request by which a remote waits, and the reply that it is due to send
 
+  -- what a remote that waits by a guard asks is what the guard gives
   pub waits_at-is : (vars : List Value) (g : GuardId) (rule : Rule) (message : ℕ × Value)
       → guard_by protocol.remote g ≡ Some rule
       → given protocol.messages vars rule.kind ≡ Some message
@@ -95,21 +99,11 @@ module _ (protocol : NumberedProtocol) where
       (g, refl, request_by-some protocol.messages protocol.remote vars g q e)
   waits_at-some vars (Due g) q e = absurd (cc)
 
+  -- what a remote is due to send is the message of its guard
   pub due_at-is : (g : GuardId) (rule : Rule) (p : ℕ) → guard_by protocol.remote g ≡ Some rule
       → message_out rule.kind ≡ Some p → due_at protocol (Due g) ≡ Some p
   due_at-is g rule p there out =
       ap (option_and_then (λ (r : Rule). message_out r.kind)) there ∙ out
-
-  -- A remote that is due to send a message stands in the place of the guard that gives it.
-  pub due_at-some : (place : Place) (p : ℕ) → due_at protocol place ≡ Some p
-      → (g : GuardId) × (rule : Rule) × (place ≡ Due g)
-      × (guard_by protocol.remote g ≡ Some rule) × (message_out rule.kind ≡ Some p)
-  due_at-some (Comm state) p e = absurd (cc)
-  due_at-some (Trans g) p e = absurd (cc)
-  due_at-some (Due g) p e =
-      let by =
-      some_and_then (λ (rule : Rule). message_out rule.kind) (guard_by protocol.remote g) p e in
-      (g, by.0, refl, by.1, by.2)
 
   -- what an output gives is typed
   pub IsTypedMessage-given : (kind : RuleKind) (message : ℕ × Value)
@@ -118,6 +112,7 @@ module _ (protocol : NumberedProtocol) where
 
   -- ---- local steps
 
+  -- a local step of the home leads to a state that is there, with each variable of its type
   pub home_step-part : (state g : ℕ) (vars : List Value) (after : Part) → IsProper protocol
       → IsLocalStep protocol.home state vars g after → AreOfKinds protocol.home.vars vars
       → IsPart protocol.home after
@@ -127,6 +122,7 @@ module _ (protocol : NumberedProtocol) where
       (home_guard-part protocol proper state g step.rule vars 0 value.Unit step.there kinds below
       (tau-received protocol.messages step.rule.kind value.Unit step.tau))
 
+  -- so does one of a remote
   pub remote_step-part : (state g : ℕ) (vars : List Value) (after : Part) → IsProper protocol
       → IsLocalStep protocol.remote state vars g after → AreOfKinds protocol.remote.vars vars
       → IsPart protocol.remote after
@@ -151,15 +147,15 @@ pub IsWaitingHome-asked : (setting : Setting) (n : ℕ) (home : HomeState) (held
     → length held + 2 ≤ setting.slots
     → IsWaitingHome setting.protocol setting.slots n
     (home_waiting home (guard_id state g) j message.1) held (waiting_by state g j message.1)
-IsWaitingHome-asked setting n home held g j state rule message there passes within target gives room =
+IsWaitingHome-asked setting n home held g j state rule sent there passes within meets gives room =
     record {
       rule = rule;
       there = there;
       passes = passes;
       remote = within;
-      target = target;
-      message = message.0;
-      sends = gives ∙ pair-parts message;
+      target = meets;
+      message = sent.0;
+      sends = gives ∙ pair-parts sent;
       few_held = omega arith;
       progress = λ full. absurd (omega arith);
     }

@@ -1,7 +1,6 @@
 -- What is known of an enabled step at a remote, kind by kind: the guard, the request, what was
 -- looked at, and the outcome.
-use Rattle.std.proofs.Common.{◌≡◌, ◌⊎◌, inl, inr, ℕ, true, Option, Some}
-use Rattle.std.proofs.Common.{None, refl, sym, ap, ◌∙◌}
+use Rattle.std.proofs.Common.{◌≡◌, ◌⊎◌, inl, inr, ℕ, true, Option, Some, None, refl, sym, ap, ◌∙◌}
 use Rattle.std.specs.Option.{option_map, option_and_then}
 use Rattle.rv_base.proofs.Lists.{some_map, some_and_then}
 use Rattle.std.proofs.lemmas.Option.{same_Some}
@@ -25,9 +24,9 @@ use Rattle.async_shape.specs.Guards.{Chosen, guard_by, first_that, active_guard,
 use Rattle.async_shape.specs.Guards.{idle_state}
 use Rattle.async_shape.specs.Outcome.{RemoteOutcome, at_remote, put_on, remote_at, without_slot}
 use Rattle.async_shape.specs.RemoteSteps.{remote_tau, remote_requested, remote_sent_by, remote_send}
-use Rattle.async_shape.specs.RemoteSteps.{answered, answered_by, answered_in, remote_answer, replied}
-use Rattle.async_shape.specs.RemoteSteps.{replied_at, remote_reply, down_idle, down_waiting, down_at}
-use Rattle.async_shape.specs.RemoteSteps.{down}
+use Rattle.async_shape.specs.RemoteSteps.{answered, answered_by, answered_in, remote_answer}
+use Rattle.async_shape.specs.RemoteSteps.{replied, replied_at, remote_reply, down_idle}
+use Rattle.async_shape.specs.RemoteSteps.{down_waiting, down_at, down}
 use Rattle.async_shape.specs.declared.config.RemoteState.{RemoteState}
 use Rattle.async_shape.specs.declared.config.Request.{Request}
 use Rattle.async_shape.proofs.GuardsFound.{guards_of-at, first_that-found, accepts-input}
@@ -44,6 +43,7 @@ pub record RemoteTakesTau (setting : Setting) (remote : RemoteState) (g : ℕ) (
   pub step : IsLocalStep setting.protocol.remote state remote.vars g after
   pub outcome : o ≡ at_remote (remote_at remote after) None
 
+-- a local step of a remote takes a tau that is open
 pub remote_tau-some : (setting : Setting) (remote : RemoteState) (g : ℕ) (o : RemoteOutcome)
     → remote_tau setting remote g ≡ Some o → RemoteTakesTau setting remote g o
 unfolding remote_tau
@@ -78,6 +78,7 @@ pub record SendsRequest (setting : Setting) (j : ℕ) (remote : RemoteState) (o 
   pub gives : given setting.protocol.messages remote.vars output.rule.kind ≡ Some message
   pub outcome : o ≡ remote_requested j remote (guard_id state output.number) message
 
+-- a request of a remote is given by the only guard of its state
 pub remote_send-some : (setting : Setting) (j : ℕ) (remote : RemoteState) (o : RemoteOutcome)
     → remote_send setting j remote ≡ Some o → SendsRequest setting j remote o
 unfolding remote_send
@@ -151,6 +152,7 @@ answering setting remote state request =
     first_that (λ rule. accepts remote.vars rule request.message)
     (guards_of setting.protocol.remote state)
 
+-- the guard that answers is open and takes the request
 pub answering_guard-some : (setting : Setting) (remote : RemoteState) (state : ℕ)
     (request : Request) (guard : Chosen) → remote.place ≡ Comm state → remote.slot ≡ Some request
     → answering_guard setting.protocol.remote remote ≡ Some guard
@@ -177,6 +179,7 @@ answering_guard-some setting remote state request guard idle slot chosen =
       passes = input.1;
     }
 
+-- the request is nacked or answered by a guard
 answered_by-how : (setting : Setting) (j : ℕ) (remote : RemoteState) (state : ℕ)
     (request : Request) (guard : Option Chosen) (o : RemoteOutcome)
     → remote.place ≡ Comm state → remote.slot ≡ Some request
@@ -196,16 +199,19 @@ answered_by-how setting j remote state request (Some guard) o idle slot chosen o
       outcome = outcome;
     })
 
+-- it is answered in a state that has no output
 answered_in-some : (setting : Setting) (j : ℕ) (remote : RemoteState) (request : Request)
     (output : Option Chosen) (o : RemoteOutcome)
     → answered_in setting j remote request output ≡ Some o
     → (output ≡ None)
     × (o ≡ answered_by setting j remote request (answering_guard setting.protocol.remote remote))
 answered_in-some setting j remote request None o did =
-    let now = answered_by setting j remote request (answering_guard setting.protocol.remote remote) in
+    let guard = answering_guard setting.protocol.remote remote in
+    let now = answered_by setting j remote request guard in
     (refl, sym (same_Some now o did))
 answered_in-some setting j remote request (Some output) o did = absurd (cc)
 
+-- a request that is answered stands in the slot, and is nacked or answered by a guard
 pub remote_answer-some : (setting : Setting) (j : ℕ) (remote : RemoteState) (o : RemoteOutcome)
     → remote_answer setting j remote ≡ Some o → AnswersRequest setting j remote o
 unfolding remote_answer
@@ -245,6 +251,7 @@ pub record SendsReply (setting : Setting) (j : ℕ) (remote : RemoteState) (o : 
   pub gives : given setting.protocol.messages remote.vars rule.kind ≡ Some message
   pub outcome : o ≡ replied setting j remote rule message
 
+-- a reply is sent where the remote is due, where its place is known
 replied_at-some : (setting : Setting) (j : ℕ) (remote : RemoteState) (place : Place)
     (o : RemoteOutcome) → remote.place ≡ place → replied_at setting j remote place ≡ Some o
     → SendsReply setting j remote o
@@ -267,6 +274,7 @@ replied_at-some setting j remote (Due g) o at did =
       outcome = sym message.2;
     }
 
+-- a reply is given by the guard by which the remote is due
 pub remote_reply-some : (setting : Setting) (j : ℕ) (remote : RemoteState) (o : RemoteOutcome)
     → remote_reply setting j remote ≡ Some o → SendsReply setting j remote o
 unfolding remote_reply
@@ -303,6 +311,7 @@ Reaches setting remote arrived =
     ⊎ ReachesWaiting setting remote arrived
     ⊎ ReachesDue setting remote arrived
 
+-- a packet reaches an idle remote, one that waits, or one that is due, where its place is known
 down_at-by : (setting : Setting) (remote : RemoteState) (arrived : Packet) (place : Place)
     → remote.place ≡ place
     → down setting remote arrived
@@ -315,6 +324,7 @@ down_at-by setting remote arrived (Trans g) at did =
 down_at-by setting remote arrived (Due g) at did =
     inr (inr (record { guard = g; due = at; outcome = did }))
 
+-- so it does in any place
 pub down-by : (setting : Setting) (remote : RemoteState) (arrived : Packet)
     → Reaches setting remote arrived
 unfolding down

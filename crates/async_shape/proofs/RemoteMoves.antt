@@ -18,6 +18,7 @@ use Rattle.async_shape.proofs.LinksAfter.{links_after-count, links_after-other, 
 use Rattle.async_shape.proofs.LinksAfter.{links_after-own}
 use Rattle.async_shape.proofs.Frame.{view_at-of, view_at-same, SeesSame, cases-but_one}
 use Rattle.async_shape.proofs.Frame.{remotes-other, remotes-own}
+use Rattle.async_shape.proofs.ShapeParts.{links-there}
 
 -- the view of a remote that stands so now, after this was put on its links and taken from them
 abbrev pub view_moved : View → RemoteState → Option Put → Option Link → View
@@ -58,10 +59,12 @@ IsWhole-places setting c remotes links count same whole =
 
 -- what a step at remote j leaves, which takes a packet from this link, if from any
 module _ (setting : Setting) (c : Config) (taken : Option Link) (j : ℕ) (o : RemoteOutcome) where
+  -- the configuration after the step
   abbrev after : Config
   after = config_after c (remote_moved c taken j o)
 
-  remote_moved-own : j < count_of c → j < length c.links → IsPutAt j o.put → IsTakenAt j taken
+  -- remote j stands as the step left it
+  pub remote_moved-own : j < count_of c → j < length c.links → IsPutAt j o.put → IsTakenAt j taken
       → view_at setting.protocol after j
       ≡ view_moved (view_at setting.protocol c j) o.remote o.put taken
   remote_moved-own there linked is_put is_taken =
@@ -71,6 +74,7 @@ module _ (setting : Setting) (c : Config) (taken : Option Link) (j : ℕ) (o : R
       (remotes-own c.remotes j o.remote there) refl
       (links_after-own o.put taken c.links j is_put is_taken linked) refl refl
 
+  -- each other remote is seen as before
   remote_moved-other : IsPutAt j o.put → IsTakenAt j taken → (q : ℕ) → q ≢ j
       → SeesSame setting c after q
   remote_moved-other is_put is_taken q apart =
@@ -78,6 +82,7 @@ module _ (setting : Setting) (c : Config) (taken : Option Link) (j : ℕ) (o : R
       (links_after-other o.put taken c.links q
       (put-elsewhere j q o.put apart is_put) (taken-elsewhere j q taken apart is_taken)) refl refl
 
+  -- it has the shape where remote j is in a case again
   pub IsShaped-remote_moved : j < count_of c → IsPutAt j o.put → IsTakenAt j taken
       → IsShaped setting c
       → Case setting (view_moved (view_at setting.protocol c j) o.remote o.put taken)
@@ -85,8 +90,7 @@ module _ (setting : Setting) (c : Config) (taken : Option Link) (j : ℕ) (o : R
   unfolding IsShaped
   IsShaped-remote_moved there is_put is_taken shaped case =
       let count = length-set c.remotes j o.remote in
-      let linked : j < length c.links =
-      subst (λ (n : ℕ). j < n) (sym shaped.whole.links) there in
+      let linked = links-there setting c shaped j there in
       let own = remote_moved-own there linked is_put is_taken in
       record {
         whole =

@@ -10,8 +10,8 @@ use Rattle.proto_model.specs.Guards.{after_guard}
 use Rattle.proto_model.specs.declared.numbered.Value.TheVariants as value
 use Rattle.proto_model.specs.declared.numbered.Rule.{Rule}
 use Rattle.proto_model.specs.declared.rendezvous.Part.{Part}
-use Rattle.async_shape.proofs.ProperFacts.{remote_guard-gives, remote_input-leads, input-received}
-use Rattle.async_shape.proofs.ProperFacts.{output-received}
+use Rattle.proto_model.proofs.ProperFacts.{remote_guard-gives, remote_input-leads, input-received}
+use Rattle.proto_model.proofs.ProperFacts.{output-received}
 use Rattle.controller_table.specs.Rows.{guard_id}
 use Rattle.controller_table.specs.declared.rows.GuardId.{GuardId}
 use Rattle.controller_table.specs.declared.rows.Place.TheVariants.{Comm, Trans, Due}
@@ -21,17 +21,15 @@ use Rattle.ordered_links.specs.declared.packet.Packet.TheVariants as packet
 use Rattle.async_shape.specs.Setting.{Setting, reply_to}
 use Rattle.async_shape.specs.Config.{Config}
 use Rattle.async_shape.specs.Guards.{request_of}
-use Rattle.async_shape.specs.Outcome.{RemoteOutcome, put_on, remote_at}
-use Rattle.async_shape.specs.Outcome.{without_slot}
+use Rattle.async_shape.specs.Outcome.{RemoteOutcome, put_on, remote_at, without_slot}
 use Rattle.async_shape.specs.RemoteSteps.{answered}
 use Rattle.async_shape.specs.Next.{StepOutcome, config_after, outcome}
 use Rattle.async_shape.specs.View.{View, nobody, view_at}
-use Rattle.async_shape.specs.Phase.{Resting, RequestComes, RequestInSlot, AnswerGoes}
-use Rattle.async_shape.specs.Phase.{ReplyIsDue, RequestGoes, RequestsCross, RequestCrossed}
-use Rattle.async_shape.specs.Phase.{AnswerThenRequestGo, as_packet, IsInPhase}
-use Rattle.async_shape.specs.Phase.{is_idle_place, is_answer, WaitsBy, due_at, IsIdle, IsAnswerTo}
-use Rattle.async_shape.specs.Phase.{IsActiveGuard, IsRemotePlace, IsTypedMessage, IsTypedSlot}
-use Rattle.async_shape.specs.Phase.{IsTypedPacket, Case}
+use Rattle.async_shape.specs.Phase.{Resting, RequestComes, RequestInSlot, AnswerGoes, ReplyIsDue}
+use Rattle.async_shape.specs.Phase.{RequestGoes, RequestsCross, RequestCrossed, AnswerThenRequestGo}
+use Rattle.async_shape.specs.Phase.{as_packet, IsInPhase, is_idle_place, is_answer, WaitsBy, due_at}
+use Rattle.async_shape.specs.Phase.{IsIdle, IsAnswerTo, IsActiveGuard, IsRemotePlace}
+use Rattle.async_shape.specs.Phase.{IsTypedMessage, IsTypedSlot, IsTypedPacket, Case}
 use Rattle.async_shape.specs.Shape.{IsShaped}
 use Rattle.async_shape.specs.declared.config.RemoteState.{RemoteState}
 use Rattle.async_shape.specs.declared.config.Request.{Request}
@@ -48,6 +46,7 @@ use Rattle.async_shape.proofs.Phases.{IsIn, IdlePhase, Rests, Comes, InSlot, Ans
 use Rattle.async_shape.proofs.Phases.{idle-phase, slot-phase, due-phase}
 use Rattle.async_shape.proofs.LinksAfter.{IsPutAt, IsTakenAt}
 use Rattle.async_shape.proofs.RemoteMoves.{view_moved, IsShaped-remote_moved}
+use Rattle.async_shape.proofs.ShapeParts.{IsShaped-case}
 
 -- What a step leaves at a remote with this view: what it puts is put on the remote's up link, and
 -- the remote is in a case again.
@@ -58,6 +57,7 @@ pub record KeepsCase (setting : Setting) (j : ℕ) (v : View) (taken : Option Li
 
 -- ---- a step at a remote keeps the shape where it keeps the remote's case
 
+-- A step at a remote keeps the shape where it keeps the case of each view from which it is made.
 pub IsShaped-remote_step : (setting : Setting) (c : Config) (link : Option Link) (j : ℕ)
     (P : RemoteState → RemoteOutcome → Type 0) (o : StepOutcome) → IsShaped setting c
     → IsTakenAt j link → RemoteMoves c link j P o
@@ -65,14 +65,13 @@ pub IsShaped-remote_step : (setting : Setting) (c : Config) (link : Option Link)
     → P (view_at setting.protocol c j).remote left
     → KeepsCase setting j (view_at setting.protocol c j) link left)
     → IsShaped setting (config_after c o)
-unfolding IsShaped
 IsShaped-remote_step setting c link j P o shaped taken moves keeps =
     let v = view_at setting.protocol c j in
     let same : v.remote ≡ moves.remote =
     get_or_from_slice_get c.remotes j moves.remote nobody moves.there in
     let is : P v.remote moves.left =
     subst (λ (r : RemoteState). P r moves.left) (sym same) moves.is in
-    let kept = keeps moves.left (shaped.cases j moves.within) is in
+    let kept = keeps moves.left (IsShaped-case setting c shaped j moves.within) is in
     subst (λ (so : StepOutcome). IsShaped setting (config_after c so)) (sym moves.outcome)
     (IsShaped-remote_moved setting c link j moves.left moves.within kept.put taken shaped kept.case)
 
@@ -80,6 +79,7 @@ module _ (setting : Setting) (proper : IsProper setting.protocol) (j : ℕ) (v :
     (case : Case setting v) where
   -- ---- a local step
 
+  -- the phase after a local step
   tau_phase : (p : Part) → IdlePhase setting v
       → IsInPhase setting (view_moved v (remote_at v.remote p) None None)
   tau_phase p (Rests is) = record {
@@ -131,9 +131,11 @@ module _ (setting : Setting) (proper : IsProper setting.protocol) (j : ℕ) (v :
     fits = (refl, is.fits.1);
   }
 
+  -- a remote that communicates is idle
   idle_at : (state : ℕ) → v.remote.place ≡ Comm state → IsIdle v.remote
   idle_at state idle = ap is_idle_place idle
 
+  -- a local step keeps the case
   pub RemoteTau-keeps : (g : ℕ) (left : RemoteOutcome) → RemoteTakesTau setting v.remote g left
       → KeepsCase setting j v None left
   RemoteTau-keeps g left is =
@@ -166,6 +168,7 @@ module _ (setting : Setting) (proper : IsProper setting.protocol) (j : ℕ) (v :
       → v.up ++ last ∷ [] ≡ packets ++ last ∷ []
   with_last packets last up = ap (λ (ps : List Packet). ps ++ last ∷ []) up
 
+  -- the phase where the request has been sent
   requested_phase : (g : GuardId) (q : Request)
       → WaitsBy setting.protocol q (waiting_remote g) → IdlePhase setting v
       → IsInPhase setting
@@ -219,6 +222,7 @@ module _ (setting : Setting) (proper : IsProper setting.protocol) (j : ℕ) (v :
     fits = (waits, is.fits.1);
   }
 
+  -- a request that is sent keeps the case
   pub RemoteSend-keeps : (left : RemoteOutcome) → SendsRequest setting j v.remote left
       → KeepsCase setting j v None left
   RemoteSend-keeps left is =
@@ -240,8 +244,8 @@ module _ (setting : Setting) (proper : IsProper setting.protocol) (j : ℕ) (v :
             place = IsActiveGuard-output setting.protocol g rule proper is.there is.is_output;
             vars = case.typed.vars;
             slot = tt;
-            up = AllByRecursion-push (IsTypedPacket setting.protocol) v.up (as_packet q) case.typed.up
-                typed;
+            up = AllByRecursion-push (IsTypedPacket setting.protocol) v.up (as_packet q)
+                case.typed.up typed;
             down = case.typed.down;
           };
         };
@@ -250,8 +254,9 @@ module _ (setting : Setting) (proper : IsProper setting.protocol) (j : ℕ) (v :
   -- ---- the answer
 
   -- a remote with an empty slot whose answer is on its way
-  answer_phase : (r : Request) (remote : RemoteState) (answer : Packet) → IsIn setting v (RequestInSlot r)
-      → IsIdle remote → remote.slot ≡ None → IsAnswerTo setting r answer
+  answer_phase : (r : Request) (remote : RemoteState) (answer : Packet)
+      → IsIn setting v (RequestInSlot r) → IsIdle remote → remote.slot ≡ None
+      → IsAnswerTo setting r answer
       → IsInPhase setting (view_moved v remote (put_on (Up j) answer) None)
   answer_phase r remote answer is idle empty answers = record {
     phase = AnswerGoes r answer;
@@ -266,6 +271,7 @@ module _ (setting : Setting) (proper : IsProper setting.protocol) (j : ℕ) (v :
     fits = (idle, answers);
   }
 
+  -- a nack keeps the case
   nacks-keep : (r : Request) (state : ℕ) (left : RemoteOutcome) → IsIn setting v (RequestInSlot r)
       → v.remote.place ≡ Comm state → Nacks setting j v.remote left
       → KeepsCase setting j v None left
@@ -274,12 +280,14 @@ module _ (setting : Setting) (proper : IsProper setting.protocol) (j : ℕ) (v :
         put = refl;
         case = record {
           in_phase =
-              answer_phase r (without_slot v.remote) packet.Nack slot (idle_at state idle) refl refl;
+              answer_phase r (without_slot v.remote) packet.Nack slot (idle_at state idle) refl
+              refl;
           typed = record {
             place = case.typed.place;
             vars = case.typed.vars;
             slot = tt;
-            up = AllByRecursion-push (IsTypedPacket setting.protocol) v.up packet.Nack case.typed.up tt;
+            up = AllByRecursion-push (IsTypedPacket setting.protocol) v.up packet.Nack
+                case.typed.up tt;
             down = case.typed.down;
           };
         };
@@ -340,8 +348,10 @@ module _ (setting : Setting) (proper : IsProper setting.protocol) (j : ℕ) (v :
         };
       }
 
+  -- an answer by a guard keeps the case
   answers-keep : (r : Request) (state : ℕ) (left : RemoteOutcome) → IsIn setting v (RequestInSlot r)
-      → IsTypedMessage setting.protocol r.message r.value → AnswersBy setting j v.remote state r left
+      → IsTypedMessage setting.protocol r.message r.value
+      → AnswersBy setting j v.remote state r left
       → KeepsCase setting j v None left
   answers-keep r state left slot typed is =
       let rule = is.guard.rule in
@@ -350,17 +360,20 @@ module _ (setting : Setting) (proper : IsProper setting.protocol) (j : ℕ) (v :
       let after = after_guard protocol.remote v.remote.vars rule rule.next 0 r.value in
       let below : 0 < 64 = omega arith in
       let part =
-      remote_guard-part protocol proper state g rule v.remote.vars 0 r.value is.there case.typed.vars
-      below (input-received protocol.messages rule.kind r.message r.value is.input typed.value) in
+      remote_guard-part protocol proper state g rule v.remote.vars 0 r.value is.there
+      case.typed.vars below (input-received protocol.messages rule.kind r.message r.value is.input
+      typed.value) in
       subst (KeepsCase setting j v None) (sym is.outcome)
       (answered-keeps r state g rule after (reply_to setting r.message) slot refl refl part
       (λ p reply.
       let leads =
-      remote_input-leads protocol setting.mode state g rule r.message p proper reply is.there is.input in (
+      remote_input-leads protocol setting.mode state g rule r.message p proper reply is.there
+      is.input in (
         IsActiveGuard-owed protocol p rule leads,
         due_at-is protocol (guard_id rule.next 0) leads.next p leads.one.there leads.out,
       )))
 
+  -- an answer keeps the case
   pub RemoteAnswer-keeps : (left : RemoteOutcome) → AnswersRequest setting j v.remote left
       → KeepsCase setting j v None left
   RemoteAnswer-keeps left is =
@@ -374,6 +387,7 @@ module _ (setting : Setting) (proper : IsProper setting.protocol) (j : ℕ) (v :
 
   -- ---- the reply
 
+  -- a reply keeps the case
   pub RemoteReply-keeps : (left : RemoteOutcome) → SendsReply setting j v.remote left
       → KeepsCase setting j v None left
   RemoteReply-keeps left is =
@@ -431,6 +445,7 @@ module _ (setting : Setting) (proper : IsProper setting.protocol) (j : ℕ) (v :
 
 module _ (setting : Setting) (proper : IsProper setting.protocol) (c : Config) (j : ℕ)
     (o : StepOutcome) (shaped : IsShaped setting c) where
+  -- A local step of a remote keeps the shape.
   pub IsShaped-RemoteTau : (g : ℕ) → outcome setting c (step.RemoteTau j g) ≡ Some o
       → IsShaped setting (config_after c o)
   IsShaped-RemoteTau g did =
@@ -439,6 +454,7 @@ module _ (setting : Setting) (proper : IsProper setting.protocol) (c : Config) (
       (λ left case is.
       RemoteTau-keeps setting proper j (view_at setting.protocol c j) case g left is)
 
+  -- A request of a remote keeps the shape.
   pub IsShaped-RemoteSend : outcome setting c (step.RemoteSend j) ≡ Some o
       → IsShaped setting (config_after c o)
   IsShaped-RemoteSend did =
@@ -447,6 +463,7 @@ module _ (setting : Setting) (proper : IsProper setting.protocol) (c : Config) (
       (λ left case is.
       RemoteSend-keeps setting proper j (view_at setting.protocol c j) case left is)
 
+  -- An answer of a remote keeps the shape.
   pub IsShaped-RemoteAnswer : outcome setting c (step.RemoteAnswer j) ≡ Some o
       → IsShaped setting (config_after c o)
   IsShaped-RemoteAnswer did =
@@ -455,6 +472,7 @@ module _ (setting : Setting) (proper : IsProper setting.protocol) (c : Config) (
       (λ left case is.
       RemoteAnswer-keeps setting proper j (view_at setting.protocol c j) case left is)
 
+  -- A reply of a remote keeps the shape.
   pub IsShaped-RemoteReply : outcome setting c (step.RemoteReply j) ≡ Some o
       → IsShaped setting (config_after c o)
   IsShaped-RemoteReply did =

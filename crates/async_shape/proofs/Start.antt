@@ -28,6 +28,7 @@ resting protocol = record {
 abbrev resting_view : NumberedProtocol → View
 resting_view protocol = view_of (resting protocol) None no_packets None None
 
+-- a remote that rests is in a case
 Case-resting : (setting : Setting) → IsProper setting.protocol
     → Case setting (resting_view setting.protocol)
 Case-resting setting proper = record {
@@ -52,12 +53,14 @@ Case-resting setting proper = record {
   };
 }
 
+-- at the start nothing is owed
 owed-nothing : (n j : ℕ) → ◌≡◌ {A = Option ℕ}
     (option_and_then (λ (debt : Option ℕ). debt) (slice_get (replicate n None) j)) None
 owed-nothing zero j = refl
 owed-nothing (suc n) zero = refl
 owed-nothing (suc n) (suc j) = owed-nothing n j
 
+-- the part for the whole holds at the start
 IsWhole-start : (setting : Setting) (n : ℕ) → IsProper setting.protocol → 1 ≤ n → n ≤ 64
     → 2 ≤ setting.slots → setting.slots ≤ 64 → IsWhole setting (start setting.protocol n)
 IsWhole-start setting n proper some few two most =
@@ -77,6 +80,7 @@ IsWhole-start setting n proper some few two most =
       held = record { few = nothing; senders = tt; one_of_each = tt; typed = tt };
     }
 
+-- The start has the shape.
 pub IsShaped-start : (setting : Setting) (n : ℕ) → IsProper setting.protocol → 1 ≤ n → n ≤ 64
     → 2 ≤ setting.slots → setting.slots ≤ 64 → IsShaped setting (start setting.protocol n)
 unfolding IsShaped

@@ -12,7 +12,8 @@ use Rattle.async_shape.specs.Setting.{Setting}
 use Rattle.async_shape.specs.Config.{Config, count_of}
 use Rattle.async_shape.specs.Outcome.{HomeOutcome, RemoteOutcome}
 use Rattle.async_shape.specs.HomeSteps.{home_tau, home_take, home_send, home_drop, up}
-use Rattle.async_shape.specs.RemoteSteps.{remote_tau, remote_send, remote_answer, remote_reply, down}
+use Rattle.async_shape.specs.RemoteSteps.{remote_tau, remote_send, remote_answer, remote_reply}
+use Rattle.async_shape.specs.RemoteSteps.{down}
 use Rattle.async_shape.specs.Next.{StepOutcome, arrival, config_after, home_moved, remote_moved}
 use Rattle.async_shape.specs.Next.{remote_moves, outcome, next}
 use Rattle.async_shape.specs.declared.config.RemoteState.{RemoteState}
@@ -58,6 +59,7 @@ pub record ArrivesDown (setting : Setting) (c : Config) (j : ℕ) (remote : Remo
   pub outcome : left ≡ down setting remote arrived
 
 module _ (c : Config) (link : Option Link) where
+  -- a step at the home leaves what the home does
   home_moves : (P : HomeOutcome → Type 0) (does : Option HomeOutcome) (o : StepOutcome)
       → ((left : HomeOutcome) → does ≡ Some left → P left)
       → option_map (home_moved c link) does ≡ Some o → HomeMoves c link P o
@@ -65,6 +67,7 @@ module _ (c : Config) (link : Option Link) where
       let by = some_map (home_moved c link) does o did in
       record { left = by.0; is = says by.0 by.1; outcome = sym by.2 }
 
+  -- a step at a remote leaves what the remote does, which is there
   remote_moves-some : (j : ℕ) (P : RemoteState → RemoteOutcome → Type 0)
       (does : RemoteState → Option RemoteOutcome) (o : StepOutcome) → j < count_of c
       → ((remote : RemoteState) (left : RemoteOutcome) → does remote ≡ Some left → P remote left)
@@ -100,12 +103,14 @@ next-outcome setting c d s did =
 module _ (setting : Setting) (c : Config) where
   -- ---- at the home
 
+  -- a local step of the home
   pub HomeTau-outcome : (g : ℕ) (o : StepOutcome) → outcome setting c (step.HomeTau g) ≡ Some o
       → HomeMoves c None (TakesTau setting c.home c.held g) o
   HomeTau-outcome g o did =
       home_moves c None (TakesTau setting c.home c.held g) (home_tau setting c.home c.held g) o
       (home_tau-some setting c.home c.held g) did
 
+  -- a request that is taken
   pub HomeTake-outcome : (j : ℕ) (o : StepOutcome) → outcome setting c (step.HomeTake j) ≡ Some o
       → (j < count_of c) × HomeMoves c None (TakesHeld setting (count_of c) c.home c.held j) o
   HomeTake-outcome j o did =
@@ -117,6 +122,7 @@ module _ (setting : Setting) (c : Config) where
             (home_take-some setting n c.home c.held j) at.1,
       )
 
+  -- an output of the home
   pub HomeSend-outcome : (g j : ℕ) (o : StepOutcome)
       → outcome setting c (step.HomeSend g j) ≡ Some o
       → (j < count_of c) × HomeMoves c None (SendsTo setting (count_of c) c.home c.held g j) o
@@ -129,6 +135,7 @@ module _ (setting : Setting) (c : Config) where
             (home_send-some setting n c.home c.held g j) at.1,
       )
 
+  -- a request that is dropped
   pub HomeDrop-outcome : (j : ℕ) (o : StepOutcome) → outcome setting c (step.HomeDrop j) ≡ Some o
       → (j < count_of c) × HomeMoves c None (DropsHeld setting (count_of c) c.home c.held j) o
   HomeDrop-outcome j o did =
@@ -142,6 +149,7 @@ module _ (setting : Setting) (c : Config) where
 
   -- ---- at a remote
 
+  -- a local step of a remote
   pub RemoteTau-outcome : (j g : ℕ) (o : StepOutcome)
       → outcome setting c (step.RemoteTau j g) ≡ Some o
       → RemoteMoves c None j (λ remote left. RemoteTakesTau setting remote g left) o
@@ -151,6 +159,7 @@ module _ (setting : Setting) (c : Config) where
       remote_moves-some c None j (λ remote left. RemoteTakesTau setting remote g left) does o at.0
       (λ remote left. remote_tau-some setting remote g left) at.1
 
+  -- a request of a remote
   pub RemoteSend-outcome : (j : ℕ) (o : StepOutcome)
       → outcome setting c (step.RemoteSend j) ≡ Some o
       → RemoteMoves c None j (SendsRequest setting j) o
@@ -159,6 +168,7 @@ module _ (setting : Setting) (c : Config) where
       remote_moves-some c None j (SendsRequest setting j) (remote_send setting j) o at.0
       (remote_send-some setting j) at.1
 
+  -- an answer of a remote
   pub RemoteAnswer-outcome : (j : ℕ) (o : StepOutcome)
       → outcome setting c (step.RemoteAnswer j) ≡ Some o
       → RemoteMoves c None j (AnswersRequest setting j) o
@@ -167,6 +177,7 @@ module _ (setting : Setting) (c : Config) where
       remote_moves-some c None j (AnswersRequest setting j) (remote_answer setting j) o at.0
       (remote_answer-some setting j) at.1
 
+  -- a reply of a remote
   pub RemoteReply-outcome : (j : ℕ) (o : StepOutcome)
       → outcome setting c (step.RemoteReply j) ≡ Some o
       → RemoteMoves c None j (SendsReply setting j) o
@@ -177,6 +188,7 @@ module _ (setting : Setting) (c : Config) where
 
   -- ---- where a packet arrives
 
+  -- a packet that arrives at the home
   pub Up-outcome : (j : ℕ) (o : StepOutcome) → outcome setting c (step.Up j) ≡ Some o
       → (j < count_of c) × HomeMoves c (Some (Up j)) (ArrivesUp setting c j) o
   Up-outcome j o did =
@@ -193,6 +205,7 @@ module _ (setting : Setting) (c : Config) where
         },
       )
 
+  -- a packet that arrives at a remote
   pub Down-outcome : (j : ℕ) (o : StepOutcome) → outcome setting c (step.Down j) ≡ Some o
       → RemoteMoves c (Some (Down j)) j (ArrivesDown setting c j) o
   Down-outcome j o did =

@@ -224,9 +224,10 @@ pub record Explains (rows : List Row) (body : Body) (firing : Firing) (step_site
   pub puts : Shows firing.mover (remote_named step_site) row.puts put
   pub debts : owed_then ≡ debts_after firing.mover (remote_named step_site) row.puts owed
 
--- nobody changes place or variables
+-- nobody changes place or variables, and the debts stay
 pub record ByNoRow (c d : Config) : Type 0 where
   pub home : home_situation d ≡ home_situation c
+  pub debts : d.home.owed ≡ c.home.owed
   pub remotes : remote_situations d ≡ remote_situations c
 
 -- of a step that leads from one configuration to another

@@ -12,6 +12,8 @@ pub mod Fired
 pub mod View
 pub mod Phase
 pub mod Shape
+pub mod Bounded
+pub mod Admitting
 pub mod WorkedProtocols
 pub mod WorkedCrossing
 pub mod WorkedFullSlot

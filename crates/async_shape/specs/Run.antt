@@ -1,4 +1,4 @@
--- A run: the configurations that a list of steps goes through.
+-- A run: the configurations that a list of steps goes through, and the last of them.
 use Rattle.std.specs.Prelude.{List, [], ◌∷◌, unwrap_or}
 use Rattle.async_shape.specs.Setting.{Setting}
 use Rattle.async_shape.specs.Config.{Config}
@@ -14,3 +14,8 @@ module _ (setting : Setting) where
   abbrev pub run : Config → List Step → List Config
   run c [] = c ∷ []
   run c (s ∷ steps) = c ∷ run (after_step c s) steps
+
+  -- the configuration to which these steps lead, one after another
+  abbrev pub config_at_end : Config → List Step → Config
+  config_at_end c [] = c
+  config_at_end c (s ∷ steps) = config_at_end (after_step c s) steps

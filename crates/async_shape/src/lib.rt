@@ -4,7 +4,7 @@
 //!
 //! - `config`: where the home and the remotes stand.
 //! - `step`: the steps.
-//! - `laws`: that each configuration of each run has the shape.
+//! - `laws`: what holds of each configuration of each run.
 //! - `worked_steps`: what the definition of a step says of worked runs.
 //! - `worked_rows`: which row each of their steps fires.
 //!
@@ -17,6 +17,7 @@
 //! - `Site`, `Next`, `Run`: where it does it, the configuration after it, and a run of steps.
 //! - `Fired`: the row that a step fires, and what this row explains.
 //! - `View`, `Phase`, `Shape`: what holds of each configuration of a run, remote by remote.
+//! - `Bounded`, `Admitting`: what is bounded there and can arrive, and which requests are refused.
 #![tactic(auto)]
 
 mod config;
@@ -26,5 +27,8 @@ pub mod worked_rows;
 pub mod worked_steps;
 
 pub use config::{HomePlace, HomeState, RemoteState, Request, Waiting};
-pub use laws::every_run_is_shaped;
+pub use laws::{
+    every_run_admits_what_is_useful, every_run_is_bounded, every_run_is_shaped,
+    every_step_is_by_a_row,
+};
 pub use step::Step;
