@@ -1,0 +1,6 @@
+pub mod Standing
+pub mod Moves
+pub mod Keys
+pub mod Arriving
+pub mod Effects
+pub mod StepText

@@ -1,0 +1,37 @@
+//! The asynchronous machine: the home and its remotes, which run the controllers of a table over
+//! links, one step at a time.
+//!
+//! The machine sees a table and never a protocol: where a guard leads is told by its row alone.
+//! What a step is, is defined in `async_shape`; each function here computes one definition.
+//!
+//! - `controls`: what the machine asks of its table, as a guard with the state to which it goes.
+//! - `choosing`: which guard a process takes, and what becomes of a request that comes to the home.
+//! - `parts`: where a process stands after it has completed guards.
+//! - `home` and `remote`: the steps of each.
+//! - `moves`: a step apart from the links.
+//! - `sending`: what a step does to the links.
+//! - `start`: where the processes stand at the start.
+//! - `machine`: the machine; `stepped`: what becomes of a step.
+//! - `enabled`: which steps are enabled, and the guards by which requests are taken and answered.
+//! - `texts`: the text of a step.
+#![tactic(auto)]
+
+mod choosing;
+mod controls;
+mod enabled;
+mod home;
+mod machine;
+mod moves;
+mod parts;
+mod remote;
+mod sending;
+mod start;
+mod stepped;
+mod texts;
+
+pub use async_shape::{HomePlace, Request, Step};
+pub use controls::{given, home_guard, remote_guard};
+pub use machine::Machine;
+pub use parts::{home_after_ack, home_after_reply, remote_after_ack, remote_after_reply};
+pub use stepped::Stepped;
+pub use texts::step_text;
