@@ -1,5 +1,7 @@
 pub mod Abstraction
+pub mod Fates
 pub mod Told
+pub mod Meant
 pub mod WorkedCrossingMeans
 pub mod WorkedFullSlotMeans
 pub mod WorkedDownPairMeans
