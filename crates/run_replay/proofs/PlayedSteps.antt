@@ -1,0 +1,129 @@
+-- The block of a step, as it is put together, and where the controllers start.
+use Rattle.std.proofs.Common.{◌≡◌, ℕ, List, [], ◌++◌, length, replicate, Option, Some, None, codes}
+use Rattle.std.proofs.Common.{refl, sym, ap, ◌∙◌, append_assoc, append-nil}
+use Rattle.std.proofs.lemmas.List.{length-replicate}
+use Rattle.proto_model.specs.Tokens.{Text}
+use Rattle.proto_model.specs.Numbered.{NumberedProtocol, CheckedProtocol}
+use Rattle.proto_model.specs.declared.mode.Mode.{Mode}
+use Rattle.proto_model.specs.declared.numbered.NumberedClaim.{NumberedClaim}
+use Rattle.proto_model.specs.declared.numbered.Body.{Body}
+use Rattle.controller_table.specs.Sound.{Tabled, table_in, protocol_of}
+use Rattle.controller_table.proofs.Told.{home-bare, remote-bare}
+use Rattle.ordered_links.specs.Lists.{LinkPair, no_packets}
+use Rattle.async_shape.specs.Config.{Config, start}
+use Rattle.async_shape.specs.Next.{next, displaced_sender}
+use Rattle.async_shape.specs.Setting.{Setting}
+use Rattle.async_shape.specs.declared.step.Step.{Step}
+use Rattle.async_machine.specs.Standing.{Standing, setting_of, config}
+use Rattle.async_machine.specs.StepText.{step_text}
+use Rattle.abstraction_map.specs.Abstraction.{abstraction}
+use Rattle.abstraction_map.specs.Told as spec
+use Rattle.abstraction_map.specs.declared.told.Told.{Told}
+use Rattle.run_replay.specs.ToldWords.{told_words}
+use Rattle.run_replay.specs.RunTrace.{Running, step_block, lines_after, lines_if, run_start}
+
+-- these claims, and the controllers in this configuration
+abbrev pub running_so : List NumberedClaim → Setting → Config → Running
+running_so claims setting c = record { claims = claims; setting = setting; config = c }
+
+-- ---- the block of a step
+
+words-joined : (start text colon told line lines : Text)
+    → (start ++ (text ++ (colon ++ (told ++ line)))) ++ lines
+    ≡ start ++ (text ++ (colon ++ (told ++ (line ++ lines))))
+words-joined start text colon told line lines = simp append_assoc refl
+
+lines-same : (protocol of : NumberedProtocol) (s : Step) (displaced sender : Option ℕ) (d : Config)
+    (after : Option Config) → of ≡ protocol → displaced ≡ sender → after ≡ Some d
+    → lines_after of d s displaced ≡ lines_if protocol s sender after
+lines-same protocol of s displaced sender d after is_of is_sender leads =
+    rw (is_of, is_sender, leads) refl
+
+module _ (setting : Setting) (c : Config) (s : Step) where
+  -- the words of a step that is told so
+  abbrev pub words_of : Told → Text
+  words_of told =
+      step_text s ++ (codes ": " ++ (told_words setting.protocol (abstraction setting.protocol c) told
+      ++ codes "\n"))
+
+  module _ (claims : List NumberedClaim) (told : Told) (start words : Text)
+      (is_told : told ≡ spec.told setting c s) (has_words : words ≡ start ++ words_of told) where
+    -- The words with the lines that follow them are the block.
+    block-of : (lines : Text)
+        → lines ≡ lines_if setting.protocol s (displaced_sender setting c s) (next setting c s)
+        → words ++ lines ≡ start ++ step_block (running_so claims setting c) s
+    block-of lines is =
+        let stands = abstraction setting.protocol c in
+        let all : Told → Text → Text =
+        λ t after. start ++ (step_text s ++ (codes ": " ++ (told_words setting.protocol stands t
+        ++ (codes "\n" ++ after)))) in
+        ap (λ (text : Text). text ++ lines) has_words
+        ∙ words-joined start (step_text s) (codes ": ") (told_words setting.protocol stands told)
+        (codes "\n") lines
+        ∙ ap (λ (t : Told). all t lines) is_told
+        ∙ ap (all (spec.told setting c s)) is
+
+    -- The step moved, and the lines after it show where the controllers stand then.
+    pub block-moved : (of : NumberedProtocol) (displaced : Option ℕ) (d : Config) (all : Text)
+        → of ≡ setting.protocol → displaced ≡ displaced_sender setting c s
+        → next setting c s ≡ Some d → all ≡ words ++ lines_after of d s displaced
+        → all ≡ start ++ step_block (running_so claims setting c) s
+    block-moved of displaced d all is_of is_displaced leads written =
+        written ∙ block-of (lines_after of d s displaced)
+        (lines-same setting.protocol of s displaced (displaced_sender setting c s) d
+        (next setting c s) is_of is_displaced leads)
+
+    -- The step was refused, and no line follows it.
+    pub block-refused : (all : Text) → next setting c s ≡ None → all ≡ words
+        → all ≡ start ++ step_block (running_so claims setting c) s
+    block-refused all leads written =
+        written ∙ sym (append-nil words)
+        ∙ block-of [] (sym (ap (lines_if setting.protocol s (displaced_sender setting c s)) leads))
+
+-- ---- the start
+
+with-bodies : (protocol : NumberedProtocol) (home remote : Body) → home ≡ protocol.home
+    → remote ≡ protocol.remote
+    → record { name = protocol.name; messages = protocol.messages; home = home; remote = remote }
+    ≡ protocol
+with-bodies protocol home remote is_home is_remote = rw (is_home, is_remote) refl
+
+-- the table of a protocol tells the protocol
+pub protocol_of-table_in : (protocol : NumberedProtocol) (mode : Mode)
+    → protocol_of (table_in protocol mode) ≡ protocol
+protocol_of-table_in protocol mode =
+    with-bodies protocol _ _ (home-bare protocol mode) (remote-bare protocol mode)
+
+same-setting : (table of : Tabled) (slots k : ℕ) (protocol : NumberedProtocol) → table ≡ of
+    → slots ≡ k → protocol_of of ≡ protocol
+    → setting_of table slots ≡ record { protocol = protocol; mode = of.mode; slots = k }
+same-setting table of slots k protocol is_table is_slots tells =
+    ap (λ (t : Tabled). setting_of t slots) is_table
+    ∙ ap (setting_of of) is_slots
+    ∙ ap (λ (p : NumberedProtocol). record { protocol = p; mode = of.mode; slots = k }) tells
+
+same-running : (claims claims_at : List NumberedClaim) (setting setting_at : Setting)
+    (c c_at : Config) → claims ≡ claims_at → setting ≡ setting_at → c ≡ c_at
+    → running_so claims setting c ≡ running_so claims_at setting_at c_at
+same-running claims claims_at setting setting_at c c_at is_claims is_setting is_config =
+    rw (is_claims, is_setting, is_config) refl
+
+-- a machine over such links and this table, at the start, and the claims
+pub starts-so : {L : Type 0} (lists : L → List LinkPair) (checked : CheckedProtocol) (table : Tabled)
+    (machine : Standing L) (links : L) (claims : List NumberedClaim) (n k : ℕ)
+    → claims ≡ checked.claims → table ≡ table_in checked.protocol table.mode
+    → lists links ≡ replicate n no_packets
+    → machine.table ≡ table → machine.slots ≡ k
+    → config lists machine ≡ start (protocol_of table) (length (lists links))
+    → running_so claims (setting_of machine.table machine.slots) (config lists machine)
+    ≡ run_start checked table.mode n k
+starts-so lists checked table machine links claims n k is_claims is_table are_links has_table has_slots
+    starts =
+    let told : protocol_of table ≡ checked.protocol =
+    ap protocol_of is_table ∙ protocol_of-table_in checked.protocol table.mode in
+    let count : length (lists links) ≡ n = ap length are_links ∙ length-replicate n no_packets in
+    same-running claims checked.claims (setting_of machine.table machine.slots) _
+    (config lists machine) (start checked.protocol n) is_claims
+    (same-setting machine.table table machine.slots k checked.protocol has_table has_slots told)
+    (starts ∙ ap (λ (p : NumberedProtocol). start p (length (lists links))) told
+    ∙ ap (start checked.protocol) count)

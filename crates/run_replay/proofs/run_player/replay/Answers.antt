@@ -1,0 +1,8 @@
+-- The table is in this mode.
+use Rattle.run_replay.proofs.run_player.replay.Goals as goal
+
+pub returns-in-Ok-clause-stops : goal.returns-in-Ok-clause-stops
+returns-in-Ok-clause-stops g c = rw (← c.in-Ok.ensures.mode) c.replay_on.ensures.stops
+
+pub returns-in-Ok-clause-writes : goal.returns-in-Ok-clause-writes
+returns-in-Ok-clause-writes g c = rw (← c.in-Ok.ensures.mode) c.replay_on.ensures.writes

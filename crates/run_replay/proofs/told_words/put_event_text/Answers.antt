@@ -1,0 +1,11 @@
+-- Where memory ran out before, nothing is appended.
+use Rattle.std.proofs.Common.{◌≡◌, Err}
+use Rattle.proto_model.specs.Texts.{event_text}
+use Rattle.schedule_replay.proofs.Chained.{ceased}
+use Rattle.run_replay.proofs.told_words.put_event_text.Goals as goal
+
+pub returns-in-Err : goal.returns-in-Err
+returns-in-Err c =
+    let stopped : c.args.so_far ≡ Err c.in-Err.failure = c.in-Err.is in
+    ceased (event_text c.args.event)
+    c.args.so_far c.in-Err.failure c.args.out.now.items stopped

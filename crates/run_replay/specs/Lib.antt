@@ -1,0 +1,7 @@
+pub mod StepLines
+pub mod StateLines
+pub mod Listed
+pub mod ToldWords
+pub mod MessageBehind
+pub mod RunTrace
+pub mod Blocks
