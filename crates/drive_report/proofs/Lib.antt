@@ -1,0 +1,15 @@
+pub mod NoneReady
+pub mod EnabledByKind
+pub mod Doing
+pub mod StillRemotes
+pub mod StillHome
+pub mod Still
+pub mod ReadyList
+pub mod EnabledFrames
+pub mod SilentForms
+pub mod ReadyRows
+pub mod RowsPushed
+pub mod RowPlaces
+pub mod Longest
+pub mod CountedOver
+pub mod DrivenTurns

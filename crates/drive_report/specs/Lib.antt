@@ -1,0 +1,7 @@
+pub mod Ready
+pub mod Drive
+pub mod SummaryText
+pub mod Forms
+pub mod Counted
+pub mod Turns
+pub mod Rows
