@@ -31,10 +31,10 @@ fn run(rt: &HostRuntime) -> Status {
         Some(word) => word.as_str(),
         None => "",
     };
-    let mut protocol = FileSource::new(rt, path);
+    let mut file = FileSource::new(rt, path);
     let mut schedule = StdinSource::new(rt);
     let mut out = StdoutSink::new(rt);
-    rvc(rt.alloc(), &words, &mut protocol, &mut schedule, &mut out)
+    rvc(rt.alloc(), &words, &mut file, &mut schedule, &mut out)
 }
 
 // The words after the program's name. Where one of them is no text, the words have no form, as

@@ -2,28 +2,25 @@
 
 ghost use Rattle.std.specs.Prelude.{◌≡◌, List, ℕ, None};
 ghost use Rattle.std.specs.Io.{ReadsAtMost};
-ghost use Rattle.rv_base.specs.Outside.{RisesWhere, ReadMoves, ReadEnds, ReadGoes, read_failed};
+ghost use Rattle.rv_base.specs.Outside.{RisesWhere, ReadMoves, ReadEnds, read_failed, read_wants};
 
 use crate::errors::ErrorCount;
 use rv_base::ReadAnswer;
 use std::io;
 
-/// How many reads of a source failed, whether the last one came to its end, and whether the last
-/// one was refused: it failed, or there was no memory for it.
+/// How many reads of a source failed or had no memory, and whether the last one came to its end.
 #[derive(Debug, Drop)]
 pub struct Reading {
     pub errors: ErrorCount,
     pub ended: bool,
-    pub refused: bool,
 }
 
 impl Reading {
     /// No read was made yet.
     pub fn new() -> Reading {
         Reading {
-            errors: ErrorCount { count: 0 },
+            errors: ErrorCount::new(),
             ended: false,
-            refused: false,
         }
     }
 
@@ -32,13 +29,13 @@ impl Reading {
     pub fn answer(&mut self, outcome: io::Result<usize>) -> ReadAnswer
         ensures bytes { (into : List ℕ) → ReadsAtMost outcome into
             → ReadMoves None None into result }
-        ensures cause { RisesWhere (read_failed result) self.old.errors.count
-            self.new.errors.count }
+        ensures cause { RisesWhere (read_failed result) self.old.errors.faults
+            self.new.errors.faults }
+        ensures wants { RisesWhere (read_wants result) self.old.errors.wants
+            self.new.errors.wants }
         ensures ends { ReadEnds self.new.ended result }
-        ensures went { ReadGoes self.new.refused result }
     {
         self.ended = false;
-        self.refused = false;
         match outcome {
             Ok(0) => {
                 self.ended = true;
@@ -46,7 +43,6 @@ impl Reading {
             }
             Ok(count) => ReadAnswer::Got(count),
             Err(error) => {
-                self.refused = true;
                 if self.errors.counts(&error) {
                     ReadAnswer::Failed
                 } else {

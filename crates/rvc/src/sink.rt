@@ -12,7 +12,6 @@ use std::io::{ErrorKind, Stdout, Write};
 pub struct StdoutSink {
     stdout: Stdout,
     errors: ErrorCount,
-    refused: bool,
 }
 
 impl StdoutSink {
@@ -20,15 +19,14 @@ impl StdoutSink {
     pub fn new(rt: &HostRuntime) -> StdoutSink {
         StdoutSink {
             stdout: rt.stdout(),
-            errors: ErrorCount { count: 0 },
-            refused: false,
+            errors: ErrorCount::new(),
         }
     }
 
     // Writes and flushes. A write that takes nothing is an error.
     fn write_some(&mut self, piece: &[u8]) -> io::Result<usize>
         ensures bound { IfOk result (λ count. (1 ≤ count) × (count ≤ length piece.now)) }
-        ensures count { self.new.errors.count ≡ self.old.errors.count }
+        ensures errors { self.new.errors ≡ self.old.errors }
     {
         let count = self.stdout.write(piece)?;
         self.stdout.flush()?;
@@ -42,18 +40,14 @@ impl StdoutSink {
 impl Sink for StdoutSink {
     ghost taken = { λ _. None };
 
-    ghost faults = { λ sink. sink.errors.count };
+    ghost faults = { λ sink. sink.errors.faults };
 
-    ghost refused = { λ sink. sink.refused };
+    ghost wants = { λ sink. sink.errors.wants };
 
     fn write(&mut self, piece: &[u8]) -> WriteAnswer {
         let outcome = self.write_some(piece);
-        self.refused = true;
         match outcome {
-            Ok(count) => {
-                self.refused = false;
-                WriteAnswer::Took(count)
-            }
+            Ok(count) => WriteAnswer::Took(count),
             Err(error) => {
                 if self.errors.counts(&error) {
                     WriteAnswer::Failed

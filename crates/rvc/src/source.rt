@@ -58,11 +58,11 @@ fn opened(rt: &HostRuntime, path: &str) -> io::Result<File> {
 impl<'a> Source for FileSource<'a> {
     ghost left = { λ _. None };
 
-    ghost faults = { λ source. source.reading.errors.count };
+    ghost faults = { λ source. source.reading.errors.faults };
+
+    ghost wants = { λ source. source.reading.errors.wants };
 
     ghost ended = { λ source. source.reading.ended };
-
-    ghost refused = { λ source. source.reading.refused };
 
     fn read(&mut self, into: &mut [u8]) -> ReadAnswer {
         let outcome = self.read_some(into);
@@ -109,11 +109,11 @@ impl StdinSource {
 impl Source for StdinSource {
     ghost left = { λ _. None };
 
-    ghost faults = { λ source. source.reading.errors.count };
+    ghost faults = { λ source. source.reading.errors.faults };
+
+    ghost wants = { λ source. source.reading.errors.wants };
 
     ghost ended = { λ source. source.reading.ended };
-
-    ghost refused = { λ source. source.reading.refused };
 
     fn read(&mut self, into: &mut [u8]) -> ReadAnswer {
         let outcome = self.read_some(into);

@@ -6,16 +6,16 @@ use Rattle.std.specs.declared.option.Option.{Option}
 use Rattle.proto_model.specs.Tokens.{Text}
 use Rattle.rv_base.specs.Outside.{RisesWhere, Rose}
 use Rattle.rv_base.specs.Whole.{TakesPart}
-use Rattle.rvc_top.specs.Commands.{Task, Writes, Reads, Replays}
+use Rattle.rvc_top.specs.Commands.{Task, WritesText, RepliesToFile, ReplaysSchedule}
 use Rattle.rvc_top.specs.Endings.{Kind, Decided, ReadFailed, WriteFailed, Wanting}
 use Rattle.rvc_top.specs.Endings.{kind_of, DecidedKind, IsDecided, IsOfSchedule}
 use Rattle.rvc_top.specs.Endings.{EndsBy, Written, PartWritten, Ends, IsOrFails, AnswersOrFails}
 use Rattle.rvc_top.specs.Endings.{WhereTold, ReadsFile}
-use Rattle.rvc_top.specs.FileRead.{is_read_error}
+use Rattle.rvc_top.specs.FileRead.{reading_failed}
 use Rattle.rvc_top.specs.Reply.{FileDecidesKind, FileDecides, Delivers, Finishes}
 use Rattle.rvc_top.specs.declared.reply.Reply.{Reply}
-use Rattle.rvc_top.specs.declared.reply.Fault.{Fault}
-use Rattle.rvc_top.specs.declared.reply.Fault.TheVariants.{Read, NoMemory as WantsMemory}
+use Rattle.rvc_top.specs.declared.reply.Failure.{Failure}
+use Rattle.rvc_top.specs.declared.reply.Failure.TheVariants.{Read, NoMemory as WantsMemory}
 use Rattle.rvc_top.specs.declared.status.Status.{Status}
 use Rattle.rvc_top.specs.declared.status.Status.TheVariants.{Done, Usage, FileRefused, ReadFault}
 use Rattle.rvc_top.specs.declared.status.Status.TheVariants.{ScheduleRefused, WriteFault, NoMemory}
@@ -49,31 +49,31 @@ told-both (Some x) p q f = f x p q
 pub of-file : (task : Task) → ReadsFile task → (file schedule : Option Text)
     (fact : Text → Text → Type 0)
     → IfSome file (λ f. (s : Text) → fact f s) → WhereTold task file schedule fact
-of-file (Writes said) reads file schedule fact x = absurd reads
-of-file (Reads Value form says) reads file schedule fact x = x
-of-file (Replays Value form limits replay) reads None schedule fact x = tt
-of-file (Replays Value form limits replay) reads (Some f) schedule fact x =
-    (λ text refuses s. x s, told schedule (fact f) (λ s e. x s))
+of-file (WritesText said) reads file schedule fact x = absurd reads
+of-file (RepliesToFile Value form says) reads file schedule fact x = x
+of-file (ReplaysSchedule Value form limits replay) reads None schedule fact x = tt
+of-file (ReplaysSchedule Value form limits replay) reads (Some f) schedule fact x =
+    (λ needs_none s. x s, told schedule (fact f) (λ s e. x s))
 
 -- where both tell their bytes
 pub where-told : (task : Task) (f s : Text) (fact : Text → Text → Type 0)
     → WhereTold task (Some f) (Some s) fact → fact f s
-where-told (Writes said) f s fact x = x f s
-where-told (Reads Value form says) f s fact x = x s
-where-told (Replays Value form limits replay) f s fact x = x.1
+where-told (WritesText said) f s fact x = x f s
+where-told (RepliesToFile Value form says) f s fact x = x s
+where-told (ReplaysSchedule Value form limits replay) f s fact x = x.1
 
 -- what follows from a fact
 pub where-then : (task : Task) (file schedule : Option Text) (fact then : Text → Text → Type 0)
     → ((f s : Text) → fact f s → then f s) → WhereTold task file schedule fact
     → WhereTold task file schedule then
-where-then (Writes said) file schedule fact then g x = λ f s. g f s (x f s)
-where-then (Reads Value form says) None schedule fact then g x = tt
-where-then (Reads Value form says) (Some f) schedule fact then g x = λ s. g f s (x s)
-where-then (Replays Value form limits replay) None schedule fact then g x = tt
-where-then (Replays Value form limits replay) (Some f) None fact then g x =
-    (λ text refuses s. g f s (x.0 text refuses s), tt)
-where-then (Replays Value form limits replay) (Some f) (Some s) fact then g x =
-    (λ text refuses t. g f t (x.0 text refuses t), g f s x.1)
+where-then (WritesText said) file schedule fact then g x = λ f s. g f s (x f s)
+where-then (RepliesToFile Value form says) None schedule fact then g x = tt
+where-then (RepliesToFile Value form says) (Some f) schedule fact then g x = λ s. g f s (x s)
+where-then (ReplaysSchedule Value form limits replay) None schedule fact then g x = tt
+where-then (ReplaysSchedule Value form limits replay) (Some f) None fact then g x =
+    (λ needs_none s. g f s (x.0 needs_none s), tt)
+where-then (ReplaysSchedule Value form limits replay) (Some f) (Some s) fact then g x =
+    (λ needs_none t. g f t (x.0 needs_none t), g f s x.1)
 
 -- ---- a text is delivered
 
@@ -143,9 +143,9 @@ module _ (verdict : Status → Text → Type 0) (one : IsOne verdict) (fault : T
   ends-delivered status text said is answer (inr (inr w)) =
       subst (Ends verdict fault before now) (sym w.0) (partly-part status text said w.1)
 
-  pub ends-finished : (reply : Result Reply Fault) (answer : Status)
+  pub ends-finished : (reply : Result Reply Failure) (answer : Status)
       → IfOk reply (λ r. verdict r.status r.text.items) → IfOk reply (λ r. IsDecided r.status)
-      → (is_read_error reply ≡ true → now ≡ Some before → fault)
+      → (reading_failed reply ≡ true → now ≡ Some before → fault)
       → Finishes (Some before) now reply answer → Ends verdict fault before now answer
   ends-finished (Ok r) answer said is failed w =
       ends-delivered r.status r.text.items said is answer w
@@ -163,7 +163,7 @@ exact-delivered verdict one old now status text said answer w s t other =
     (inr (inr (inl refl))) (inr (inr (inr refl)))
 
 pub exact-finished : (verdict : Status → Text → Type 0) → IsOne verdict
-    → (old now : Option Text) (reply : Result Reply Fault) (answer : Status)
+    → (old now : Option Text) (reply : Result Reply Failure) (answer : Status)
     → IfOk reply (λ r. verdict r.status r.text.items)
     → Finishes old now reply answer → AnswersOrFails verdict answer
 exact-finished verdict one old now (Ok r) answer said w s t other =
@@ -179,7 +179,7 @@ reply-decided ReadFailed is = is
 reply-decided WriteFailed is = is
 reply-decided Wanting is = is
 
-pub replies-decided : (reply : Result Reply Fault) → IfOk reply (λ r. FileDecides r.status)
+pub replies-decided : (reply : Result Reply Failure) → IfOk reply (λ r. FileDecides r.status)
     → IfOk reply (λ r. IsDecided r.status)
 replies-decided (Ok r) is = reply-decided (kind_of r.status) is
 replies-decided (Err e) is = tt
@@ -191,7 +191,7 @@ NoReply answer = (answer ≡ Usage → ⊥) × (IsOfSchedule answer → ⊥)
 no-reply : (status : Status) → FileDecides status → NoReply status
 no-reply status is = (λ e. subst FileDecides e is, λ e. subst FileDecidesKind e is)
 
-pub finished-no : (old now : Option Text) (reply : Result Reply Fault) (answer : Status)
+pub finished-no : (old now : Option Text) (reply : Result Reply Failure) (answer : Status)
     → IfOk reply (λ r. FileDecides r.status) → Finishes old now reply answer → NoReply answer
 finished-no old now (Ok r) answer is w =
     by-delivery NoReply old now r.text.items r.status answer w (no-reply r.status is)
@@ -205,9 +205,9 @@ finished-no old now (Err WantsMemory) answer is w =
     (λ e. absurd (cc w.0), λ e. absurd (let f = subst IsOfSchedule w.0 e in cc))
 
 -- a read fault is answered only where the source failed, and then nothing is written
-pub finished-read : (old now : Option Text) (reply : Result Reply Fault) (answer : Status)
+pub finished-read : (old now : Option Text) (reply : Result Reply Failure) (answer : Status)
     → IfOk reply (λ r. FileDecides r.status) → Finishes old now reply answer
-    → answer ≡ ReadFault → (is_read_error reply ≡ true) × (now ≡ old)
+    → answer ≡ ReadFault → (reading_failed reply ≡ true) × (now ≡ old)
 finished-read old now (Ok r) answer is w e =
     absurd (by-delivery (λ s. s ≡ ReadFault → ⊥) old now r.text.items r.status answer w
     (λ f. subst FileDecides f is) (λ f. absurd (cc)) (λ f. absurd (cc)) e)
@@ -215,7 +215,7 @@ finished-read old now (Err Read) answer is w e = (refl, w.1)
 finished-read old now (Err WantsMemory) answer is w e = absurd (cc w.0)
 
 -- a run that is done has its reply
-pub finished-done : (X : Type 0) (old now : Option Text) (reply : Result Reply Fault)
+pub finished-done : (X : Type 0) (old now : Option Text) (reply : Result Reply Failure)
     (answer : Status) → IfOk reply (λ r. r.status ≡ Done → X) → Finishes old now reply answer
     → answer ≡ Done → X
 finished-done X old now (Ok r) answer x w e =
@@ -223,13 +223,6 @@ finished-done X old now (Ok r) answer x w e =
     (λ f. absurd (cc)) e
 finished-done X old now (Err Read) answer x w e = absurd (cc w.0)
 finished-done X old now (Err WantsMemory) answer x w e = absurd (cc w.0)
-
--- a run that is decided has its reply
-pub finished-decided : (X : Type 0) (old now : Option Text) (reply : Result Reply Fault)
-    (answer : Status) → IfOk reply (λ r. X) → Finishes old now reply answer → IsDecided answer → X
-finished-decided X old now (Ok r) answer x w is = x
-finished-decided X old now (Err Read) answer x w is = absurd (subst IsDecided w.0 is)
-finished-decided X old now (Err WantsMemory) answer x w is = absurd (subst IsDecided w.0 is)
 
 -- ---- another verdict that says the same
 

@@ -1,15 +1,17 @@
 -- Each run has a verdict, and one alone.
-use Rattle.std.proofs.Common.{◌≡◌, Option, Some, None, sym, ◌∙◌, subst, refl, inl, inr}
+use Rattle.std.proofs.Common.{◌≡◌, map, string_bytes, Option, Some, None, sym, ◌∙◌, subst, refl}
+use Rattle.std.proofs.Common.{inl, inr}
 use Rattle.proto_model.specs.Tokens.{Text}
 use Rattle.rvc_top.specs.Words.{meaning}
 use Rattle.rvc_top.specs.Forms.{FileForm, RefusesOrHolds, IsForm}
-use Rattle.rvc_top.specs.Commands.{Said, Task, Writes, Reads, Replays, describe}
+use Rattle.rvc_top.specs.Commands.{Said, Task, WritesText, RepliesToFile, ReplaysSchedule, describe}
 use Rattle.rvc_top.specs.Verdict.{IsSaid, FileVerdict, TaskVerdict, EveryRunIsDecided}
 use Rattle.rvc_top.specs.Verdict.{EveryVerdictIsOne}
 use Rattle.rvc_top.specs.Runs.{RefusesWords}
 use Rattle.rvc_top.specs.declared.command.Command.{Command}
-use Rattle.rvc_top.specs.declared.command.Command.TheVariants.{Print, Check, Rv, TableText}
-use Rattle.rvc_top.specs.declared.command.Command.TheVariants.{TableJson, Example as ExampleText}
+use Rattle.rvc_top.specs.declared.command.Command.TheVariants.{Print, Check, Rv, Run, Drive}
+use Rattle.rvc_top.specs.declared.command.Command.TheVariants.{TableText, TableJson}
+use Rattle.rvc_top.specs.declared.command.Command.TheVariants.{Example as ExampleText}
 use Rattle.rvc_top.specs.declared.example.Example.{Example}
 use Rattle.rvc_top.specs.declared.status.Status.{Status}
 use Rattle.rvc_top.specs.declared.status.Status.TheVariants.{FileRefused}
@@ -17,9 +19,9 @@ use Rattle.rvc_top.proofs.Forms.{spelled_form-is, checked_form-is}
 
 -- The file that a command reads is refused with one text or holds one value.
 abbrev pub IsSound : Task → Type 0
-IsSound (Writes said) = Unit {0}
-IsSound (Reads Value form says) = IsForm form
-IsSound (Replays Value form limits replay) = IsForm form
+IsSound (WritesText said) = Unit {0}
+IsSound (RepliesToFile Value form says) = IsForm form
+IsSound (ReplaysSchedule Value form limits replay) = IsForm form
 
 -- What each command owes: its description is sound, and words that mean it aren't refused.
 pub record IsOwed (command : Option Command) : Type 0 where
@@ -35,6 +37,8 @@ owed None = record { sound = tt; meant = λ e. refl }
 owed (Some Print) = record { sound = spelled_form-is; meant = λ e. absurd e }
 owed (Some Check) = record { sound = checked_form-is; meant = λ e. absurd e }
 owed (Some (Rv n)) = record { sound = checked_form-is; meant = λ e. absurd e }
+owed (Some (Run n k mode)) = record { sound = checked_form-is; meant = λ e. absurd e }
+owed (Some (Drive d)) = record { sound = checked_form-is; meant = λ e. absurd e }
 owed (Some (TableText mode)) = record { sound = checked_form-is; meant = λ e. absurd e }
 owed (Some (TableJson mode)) = record { sound = checked_form-is; meant = λ e. absurd e }
 owed (Some (ExampleText which)) = record { sound = tt; meant = example-meant which }
@@ -72,24 +76,25 @@ module _ {Value : Type 0} (form : FileForm Value) (sound : IsForm form) (says : 
 
 task-there : (task : Task) → IsSound task → (file schedule : Text)
     → IsThere (TaskVerdict task file schedule)
-task-there (Writes said) sound file schedule = (said.status, said.text, (refl, refl))
-task-there (Reads Value form says) sound file schedule =
+task-there (WritesText said) sound file schedule = (said.status, said.text, (refl, refl))
+task-there (RepliesToFile Value form says) sound file schedule =
     file-there form sound says file (sound.decides file)
-task-there (Replays Value form limits replay) sound file schedule =
+task-there (ReplaysSchedule Value form limits replay) sound file schedule =
     file-there form sound (λ value. (replay value).says schedule) file (sound.decides file)
 
 pub task-one : (task : Task) → IsSound task → (file schedule : Text)
     → IsOne (TaskVerdict task file schedule)
-task-one (Writes said) sound file schedule = says-one said
-task-one (Reads Value form says) sound file schedule = file-one form sound says file
-task-one (Replays Value form limits replay) sound file schedule =
+task-one (WritesText said) sound file schedule = says-one said
+task-one (RepliesToFile Value form says) sound file schedule = file-one form sound says file
+task-one (ReplaysSchedule Value form limits replay) sound file schedule =
     file-one form sound (λ value. (replay value).says schedule) file
 
 pub every-run-decided : EveryRunIsDecided
-every-run-decided words file schedule = task-there (describe (meaning words)).task
-    (owed (meaning words)).sound file schedule
+every-run-decided words file schedule =
+    task-there (describe (meaning (map string_bytes words))).task
+    (owed (meaning (map string_bytes words))).sound file schedule
 
 pub every-verdict-one : EveryVerdictIsOne
 every-verdict-one words file schedule s t r u x y =
-    task-one (describe (meaning words)).task (owed (meaning words)).sound file schedule s t r u
-    x y
+    task-one (describe (meaning (map string_bytes words))).task
+    (owed (meaning (map string_bytes words))).sound file schedule s t r u x y

@@ -3,5 +3,11 @@ pub mod Forms
 pub mod EveryRun
 pub mod Endings
 pub mod Checked
+pub mod Stays
 pub mod Runs
+pub mod ReplayedRuns
+pub mod Complete
+pub mod RunRefines
+pub mod Conclusions
 pub mod Replays
+pub mod BrokenStarts

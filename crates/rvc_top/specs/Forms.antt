@@ -9,7 +9,8 @@ use Rattle.rv_base.specs.Whole.{file_limit}
 use Rattle.rvc_top.specs.Texts.{too_long_text, fault_text}
 
 -- A form in which a command takes a file: it reads so many bytes, and one more where there are
--- more, refuses the file with a text, or takes it for a value that the file holds.
+-- more; it refuses the file with a text, as one with more bytes than that, or takes it for a value
+-- that the file holds.
 pub record FileForm (Value : Type 0) : Type 1 where
   pub limit : ℕ
   pub Refuses : Text → Text → Type 0
@@ -60,7 +61,7 @@ abbrev pub RefusesFaulty : Text → Text → Type 0
 RefusesFaulty file text =
     (p : Protocol) × (length file ≤ file_limit) × Spells file p × Faulty p (item_lines file p) text
 
--- The file is refused with this text: it spells no protocol, or one with a fault.
+-- The file is refused with this text: it is too long, or spells no protocol, or one with a fault.
 abbrev pub RefusesUnchecked : Text → Text → Type 0
 RefusesUnchecked file text = RefusesUnspelled file text ⊎ RefusesFaulty file text
 

@@ -8,23 +8,23 @@ use Rattle.schedule_replay.specs.declared.replaying.Replayed.TheVariants as repl
 use Rattle.rvc_top.specs.Texts.{bad_line_text, too_many_text}
 use Rattle.rvc_top.specs.Commands.{Task}
 use Rattle.rvc_top.specs.Verdict.{TaskVerdict}
-use Rattle.rvc_top.specs.Endings.{Kind, Decided, ReadFailed, WriteFailed, Wanting, AtWords, AtFile}
-use Rattle.rvc_top.specs.Endings.{AtSchedule, AtEnd, kind_of}
+use Rattle.rvc_top.specs.Endings.{Kind, Decided, ReadFailed, WriteFailed, Wanting, InWords, InFile}
+use Rattle.rvc_top.specs.Endings.{InSchedule, ToEnd, kind_of}
 use Rattle.rvc_top.specs.declared.reply.Reply.{Reply}
-use Rattle.rvc_top.specs.declared.reply.Fault.{Fault}
-use Rattle.rvc_top.specs.declared.reply.Fault.TheVariants.{Read, NoMemory as WantsMemory}
+use Rattle.rvc_top.specs.declared.reply.Failure.{Failure}
+use Rattle.rvc_top.specs.declared.reply.Failure.TheVariants.{Read, NoMemory as WantsMemory}
 use Rattle.rvc_top.specs.declared.status.Status.{Status}
 use Rattle.rvc_top.specs.declared.status.Status.TheVariants.{Done, ScheduleRefused, ReadFault}
 use Rattle.rvc_top.specs.declared.status.Status.TheVariants.{WriteFault, NoMemory, ClaimBroken}
 
 -- ---- a reply to a file
 
--- the kinds of status that the file alone decides
+-- What a status comes of that the file alone decides.
 abbrev pub FileDecidesKind : Kind → Type 0
-FileDecidesKind (Decided AtWords) = ⊥
-FileDecidesKind (Decided AtFile) = Unit {0}
-FileDecidesKind (Decided AtSchedule) = ⊥
-FileDecidesKind (Decided AtEnd) = Unit {0}
+FileDecidesKind (Decided InWords) = ⊥
+FileDecidesKind (Decided InFile) = Unit {0}
+FileDecidesKind (Decided InSchedule) = ⊥
+FileDecidesKind (Decided ToEnd) = Unit {0}
 FileDecidesKind ReadFailed = ⊥
 FileDecidesKind WriteFailed = ⊥
 FileDecidesKind Wanting = ⊥
@@ -41,8 +41,8 @@ IsReplyTo task file reply =
 -- ---- what is written
 
 -- The bytes taken before and after a text was to be written, with which the run was to end so: the
--- text follows, and the run ends so; or a part of it follows, and a failure or want of memory ended
--- the run.
+-- text follows, and the run ends so; or a front of it follows and not the whole, and the run ends
+-- with a write fault or for want of memory.
 abbrev pub Delivers : Option Text → Option Text → Text → Status → Status → Type 0
 Delivers old new text status answer =
     ((answer ≡ status) × (new ≡ append_known old text))
@@ -50,14 +50,15 @@ Delivers old new text status answer =
     ⊎ ((answer ≡ NoMemory) × TakesPart old new text)
 
 -- The bytes taken before and after a reply was to be written. Where there is none, nothing follows,
--- and the run ends by what there was in its place.
-abbrev pub Finishes : Option Text → Option Text → Result Reply Fault → Status → Type 0
+-- and the run ends with a read fault or for want of memory, as it says in place of the reply.
+abbrev pub Finishes : Option Text → Option Text → Result Reply Failure → Status → Type 0
 Finishes old new (Ok reply) answer = Delivers old new reply.text.items reply.status answer
 Finishes old new (Err Read) answer = (answer ≡ ReadFault) × (new ≡ old)
 Finishes old new (Err WantsMemory) answer = (answer ≡ NoMemory) × (new ≡ old)
 
--- The bytes taken before and after the run ends by how its replay ended: where the schedule is
--- refused the text for it follows, or a part of it.
+-- The bytes taken between a replay that ended so and the end of the run, before and after, and how
+-- the run ends: where the schedule is refused the text for it follows, or a front of that; else
+-- nothing does.
 abbrev pub Concludes : Option Text → Option Text → Replayed → Status → Type 0
 Concludes old new replay.Done answer = (answer ≡ Done) × (new ≡ old)
 Concludes old new (replay.BadLine line) answer =

@@ -1,125 +1,120 @@
 -- All that is known of a run by what its command does, as one fact.
-use Rattle.std.specs.Prelude.{◌≡◌, ◌⊎◌, ℕ, ◌≤◌, Bool, true, false, Option, None, IfSome}
+use Rattle.std.specs.Prelude.{◌≡◌, ℕ, ◌≤◌, Bool, true, false, Option, None, IsSome, IfSome}
 use Rattle.std.specs.Io.KnownBytes.{IsAtEnd}
 use Rattle.proto_model.specs.Tokens.{Text}
 use Rattle.rv_base.specs.Outside.{RisesWhere}
 use Rattle.rv_base.specs.Whole.{TakesAtMost}
-use Rattle.schedule_replay.specs.Limits.{most_taken}
+use Rattle.schedule_replay.specs.ScheduleLimits.{most_taken}
 use Rattle.schedule_replay.specs.Replayed.{LeavesAt}
 use Rattle.schedule_replay.specs.declared.limits.Limits.{Limits}
-use Rattle.rvc_top.specs.Commands.{Task, Writes, Reads, Replays, Replay}
+use Rattle.rvc_top.specs.Commands.{Task, WritesText, RepliesToFile, ReplaysSchedule, Replay}
 use Rattle.rvc_top.specs.Verdict.{IsSaid, TaskVerdict}
-use Rattle.rvc_top.specs.Endings.{Kind, Decided, ReadFailed, WriteFailed, Wanting, AtWords, AtFile}
-use Rattle.rvc_top.specs.Endings.{AtSchedule, AtEnd, kind_of, IsDecided, IsOfSchedule, read_failed}
-use Rattle.rvc_top.specs.Endings.{write_failed}
+use Rattle.rvc_top.specs.Endings.{Kind, Decided, ReadFailed, WriteFailed, Wanting, InWords, InFile}
+use Rattle.rvc_top.specs.Endings.{InSchedule, ToEnd, kind_of, IsOfSchedule, run_read_failed}
+use Rattle.rvc_top.specs.Endings.{run_write_failed}
 use Rattle.rvc_top.specs.Endings.{Ends, IsOrFails, AnswersOrFails, ReadsFile, ReadsSchedule}
-use Rattle.rvc_top.specs.Endings.{most_of_file, most_of_schedule, WhereTold, RefusesFile}
+use Rattle.rvc_top.specs.Endings.{most_of_file, most_of_schedule, NeedsNoSchedule}
+use Rattle.rvc_top.specs.Endings.{WhereTold}
 use Rattle.rvc_top.specs.Endings.{FaultLeaves, FaultIsOf, DecidesSchedule}
 use Rattle.rvc_top.specs.declared.status.Status.{Status}
 use Rattle.rvc_top.specs.declared.status.Status.TheVariants.{Done, Usage, FileRefused, ReadFault}
+use Rattle.rvc_top.specs.declared.status.Status.TheVariants.{NoMemory}
 
--- What is seen of a source or of a sink before and after a run: the bytes left or taken, where they
--- are told; the count of faults; whether the last read of a source answered that nothing is left,
--- which is false of a sink; whether the last call failed or had no memory; and that it is as it
--- was.
+-- What is seen of a source or of a sink at one time: the bytes left or taken, where they are told,
+-- how many calls failed, and how many had no memory.
+pub record SeenAt : Type 0 where
+  pub bytes : Option Text
+  pub faults : ℕ
+  pub wants : ℕ
+
+-- What is seen of a source or of a sink before and after a run, whether the last read of a source
+-- answered that nothing is left, which is false of a sink, and that it is as it was.
 pub record Seen : Type 1 where
-  pub old : Option Text
-  pub new : Option Text
-  pub before : ℕ
-  pub now : ℕ
+  pub old : SeenAt
+  pub new : SeenAt
   pub ended : Bool
-  pub refused : Bool
   pub Same : Type 0
 
--- What is seen of a source, by how its bytes, its faults and its last read are told.
-abbrev pub seen_source : {A : Type 0} → (A → Option Text) → (A → ℕ) → (A → Bool) → (A → Bool)
+-- What is seen of a source, by how its bytes, its two counts and its last read are told.
+abbrev pub seen_source : {A : Type 0} → (A → Option Text) → (A → ℕ) → (A → ℕ) → (A → Bool)
     → A → A → Seen
-seen_source left faults ended refused old new = record {
-  old = left old;
-  new = left new;
-  before = faults old;
-  now = faults new;
+seen_source left faults wants ended old new = record {
+  old = record { bytes = left old; faults = faults old; wants = wants old };
+  new = record { bytes = left new; faults = faults new; wants = wants new };
   ended = ended new;
-  refused = refused new;
   Same = new ≡ old;
 }
 
--- What is seen of a sink, by how its bytes, its faults and its last write are told.
-abbrev pub seen_sink : {A : Type 0} → (A → Option Text) → (A → ℕ) → (A → Bool) → A → A → Seen
-seen_sink taken faults refused old new = record {
-  old = taken old;
-  new = taken new;
-  before = faults old;
-  now = faults new;
+-- What is seen of a sink, by how its bytes and its two counts are told.
+abbrev pub seen_sink : {A : Type 0} → (A → Option Text) → (A → ℕ) → (A → ℕ) → A → A → Seen
+seen_sink taken faults wants old new = record {
+  old = record { bytes = taken old; faults = faults old; wants = wants old };
+  new = record { bytes = taken new; faults = faults new; wants = wants new };
   ended = false;
-  refused = refused new;
   Same = new ≡ old;
 }
 
 -- What is seen of a source that isn't there: it stays as it is.
 abbrev pub unseen : Seen
 unseen = record {
-  old = None;
-  new = None;
-  before = 0;
-  now = 0;
+  old = record { bytes = None; faults = 0; wants = 0 };
+  new = record { bytes = None; faults = 0; wants = 0 };
   ended = false;
-  refused = false;
   Same = Unit {0};
 }
 
 -- A source was read to its end.
 abbrev pub WasEnded : Seen → Type 0
-WasEnded source = IsAtEnd source.new × (source.ended ≡ true)
+WasEnded source = IsAtEnd source.new.bytes × (source.ended ≡ true)
 
--- A source or a sink is as it was, or its last call didn't fail and had memory.
-abbrev pub WentWell : Seen → Type 0
-WentWell side = side.Same ⊎ (side.refused ≡ false)
+-- The count of calls without memory stayed: no call on the source or on the sink had none.
+abbrev pub WantsStay : Seen → Type 0
+WantsStay side = side.new.wants ≡ side.old.wants
 
--- The words alone are refused.
+-- The words are refused.
 abbrev pub RefusesWords : Task → Type 0
-RefusesWords (Writes said) = said.status ≡ Usage
-RefusesWords (Reads Value form says) = ⊥
-RefusesWords (Replays Value form limits replay) = ⊥
+RefusesWords (WritesText said) = said.status ≡ Usage
+RefusesWords (RepliesToFile Value form says) = ⊥
+RefusesWords (ReplaysSchedule Value form limits replay) = ⊥
 
 -- A run that does this ends with this answer, and leaves its file, its schedule and its sink so.
--- The clauses of `rvc` say what each field means, and follow from it.
+-- Each field is the clause of `rvc` of the same name, which says what it means.
 pub record IsRun (task : Task) (file schedule out : Seen) (answer : Status) : Type 0 where
-  pub bytes : WhereTold task file.old schedule.old (λ f s. IfSome out.old (λ before.
-      Ends (TaskVerdict task f s) (FaultLeaves task file.before file.now f s schedule.new before
-      out.new)
-      before out.new answer))
-  pub exact : WhereTold task file.old schedule.old
+  pub bytes : WhereTold task file.old.bytes schedule.old.bytes (λ f s. IfSome out.old.bytes (λ old.
+      Ends (TaskVerdict task f s)
+      (FaultLeaves task file.old.faults file.new.faults f s schedule.new.bytes old out.new.bytes)
+      old out.new.bytes answer))
+  pub exact : WhereTold task file.old.bytes schedule.old.bytes
       (λ f s. AnswersOrFails (TaskVerdict task f s) answer)
   pub usage : answer ≡ Usage → RefusesWords task
-  pub read_fault : answer ≡ ReadFault
-      → FaultIsOf task file.before file.now schedule.before schedule.now
-      (schedule.Same × (out.new ≡ out.old))
-  pub read_count : file.before ≤ file.now
-  pub schedule_count : schedule.before ≤ schedule.now
+  pub read_fault : answer ≡ ReadFault → FaultIsOf task file.old.faults file.new.faults
+      schedule.old.faults schedule.new.faults
+      (schedule.Same × (out.new.bytes ≡ out.old.bytes))
+  pub file_count : file.old.faults ≤ file.new.faults
+  pub schedule_count : schedule.old.faults ≤ schedule.new.faults
   pub reads_stay : (answer ≡ ReadFault → ⊥)
-      → (file.now ≡ file.before) × (schedule.now ≡ schedule.before)
-  pub write_count : RisesWhere (write_failed (kind_of answer)) out.before out.now
+      → (file.new.faults ≡ file.old.faults) × (schedule.new.faults ≡ schedule.old.faults)
+  pub write_count : RisesWhere (run_write_failed (kind_of answer)) out.old.faults out.new.faults
+  pub wants : (answer ≡ NoMemory → ⊥) → WantsStay file × WantsStay schedule × WantsStay out
   pub unread : (ReadsFile task → ⊥) → file.Same
   pub end : answer ≡ Done → ReadsFile task → WasEnded file
-  pub taken : TakesAtMost (most_of_file task) file.old file.new
+  pub taken : TakesAtMost (most_of_file task) file.old.bytes file.new.bytes
   pub unused : (ReadsSchedule task → ⊥) → schedule.Same
-  pub schedule_end : answer ≡ Done → ReadsSchedule task → WasEnded schedule
-  pub schedule_taken : TakesAtMost (most_of_schedule task) schedule.old schedule.new
-  pub decided : IsOfSchedule answer → DecidesSchedule task file.old schedule.old schedule.new answer
   pub file_first : answer ≡ FileRefused → schedule.Same
-  pub refused : IfSome file.old (λ f. RefusesFile task f → schedule.Same)
-  pub gave : IsDecided answer → WentWell file × WentWell schedule
-  pub written : IsDecided answer → WentWell out
+  pub unasked : IfSome file.old.bytes (λ f. NeedsNoSchedule task f → schedule.Same)
+  pub schedule_end : answer ≡ Done → ReadsSchedule task → WasEnded schedule
+  pub schedule_decided : IsOfSchedule answer
+      → DecidesSchedule task file.old.bytes schedule.old.bytes schedule.new.bytes answer
+  pub schedule_taken : TakesAtMost (most_of_schedule task) schedule.old.bytes schedule.new.bytes
 
 -- ---- a replay
 
--- the kinds of status with which a run ends that gets to its schedule
+-- What a status comes of, where the run gets to its schedule.
 abbrev pub ReachesScheduleKind : Kind → Type 0
-ReachesScheduleKind (Decided AtWords) = ⊥
-ReachesScheduleKind (Decided AtFile) = ⊥
-ReachesScheduleKind (Decided AtSchedule) = Unit {0}
-ReachesScheduleKind (Decided AtEnd) = Unit {0}
+ReachesScheduleKind (Decided InWords) = ⊥
+ReachesScheduleKind (Decided InFile) = ⊥
+ReachesScheduleKind (Decided InSchedule) = Unit {0}
+ReachesScheduleKind (Decided ToEnd) = Unit {0}
 ReachesScheduleKind ReadFailed = Unit {0}
 ReachesScheduleKind WriteFailed = Unit {0}
 ReachesScheduleKind Wanting = Unit {0}
@@ -128,22 +123,30 @@ ReachesScheduleKind Wanting = Unit {0}
 abbrev pub ReachesSchedule : Status → Type 0
 ReachesSchedule status = ReachesScheduleKind (kind_of status)
 
+-- This is so of the schedule that is replayed, where it tells its bytes; and of every schedule
+-- where a claim is broken before the first line.
+abbrev pub WhereAsked : Replay → Option Text → (Text → Type 0) → Type 0
+WhereAsked replay schedule fact =
+    (IsSome replay.broken → (s : Text) → fact s) × IfSome schedule (λ s. fact s)
+
 -- A replay of a schedule within these limits ends with this answer, and leaves its schedule and its
--- sink so. The fields are those of `IsRun` of the same name, where the file is read and holds a
--- value; and the answer is none of those that come before the schedule is read.
+-- sink so. A field of a name that `IsRun` has says what is said there, where the file is read and
+-- holds the value by which the schedule is replayed; `schedule_count` says besides when the count
+-- rises. `reaches`: the answer is none of those that come before the schedule is read.
 pub record IsReplay (replay : Replay) (limits : Limits) (schedule out : Seen)
     (answer : Status) : Type 0 where
-  pub bytes : IfSome schedule.old (λ s. IfSome out.old (λ before.
-      Ends (IsSaid (replay.says s)) (replay.Leaves s schedule.new before out.new) before out.new
-      answer))
-  pub exact : IfSome schedule.old (λ s. IsOrFails (replay.says s).status answer)
-  pub ends : ReachesSchedule answer
-  pub read_count : RisesWhere (read_failed (kind_of answer)) schedule.before schedule.now
-  pub write_count : RisesWhere (write_failed (kind_of answer)) out.before out.now
+  pub bytes : WhereAsked replay schedule.old.bytes (λ s. IfSome out.old.bytes (λ old.
+      Ends (IsSaid (replay.says s)) (replay.Leaves s schedule.new.bytes old out.new.bytes)
+      old out.new.bytes answer))
+  pub exact : WhereAsked replay schedule.old.bytes (λ s. IsOrFails (replay.says s).status answer)
+  pub reaches : ReachesSchedule answer
+  pub schedule_count : RisesWhere (run_read_failed (kind_of answer)) schedule.old.faults
+      schedule.new.faults
+  pub write_count : RisesWhere (run_write_failed (kind_of answer)) out.old.faults out.new.faults
+  pub wants : (answer ≡ NoMemory → ⊥) → WantsStay schedule × WantsStay out
+  pub unasked : IsSome replay.broken → schedule.Same
   pub schedule_end : answer ≡ Done → WasEnded schedule
-  pub schedule_taken : TakesAtMost (most_taken limits) schedule.old schedule.new
-  pub decided : IsOfSchedule answer
-      → IfSome schedule.old (λ s. (answer ≡ (replay.says s).status)
-      × LeavesAt limits (replay.stop s) s schedule.new)
-  pub gave : IsDecided answer → WentWell schedule
-  pub written : IsDecided answer → WentWell out
+  pub schedule_decided : IsOfSchedule answer
+      → IfSome schedule.old.bytes (λ s. (answer ≡ (replay.says s).status)
+      × LeavesAt limits (replay.stop s) s schedule.new.bytes)
+  pub schedule_taken : TakesAtMost (most_taken limits) schedule.old.bytes schedule.new.bytes

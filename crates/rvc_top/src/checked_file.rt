@@ -5,7 +5,7 @@ ghost use Rattle.proto_model.specs.Faults.{item_codes};
 ghost use Rattle.rvc_top.specs.FileRead.{IsJudged};
 
 use crate::file::{FileRead, FromFile, fault_on, read_file};
-use crate::reply::Fault;
+use crate::reply::Failure;
 use protocol_reader::Spelled;
 use rv_base::{NoMemory, Source};
 use star_check::{CheckError, Checked, check};
@@ -16,8 +16,8 @@ impl FromFile for Checked {
 
     ghost form = { checked_form };
 
-    fn from_file<P: Source>(alloc: Global, protocol: &mut P) -> Result<FileRead<Checked>, Fault> {
-        match read_file(alloc, protocol)? {
+    fn from_file<P: Source>(alloc: Global, file: &mut P) -> Result<FileRead<Checked>, Failure> {
+        match read_file(alloc, file)? {
             FileRead::Holds(spelled) => Ok(check_spelled(alloc, spelled)?),
             FileRead::Refused(text) => Ok(FileRead::Refused(text)),
         }

@@ -1,14 +1,15 @@
 //! The protocol file, read to its end and taken for the value that a command wants of it, or
 //! refused.
 
-ghost use Rattle.std.specs.Prelude.{◌≡◌, ◌+◌, false, IfOk, IfSome};
-ghost use Rattle.rv_base.specs.Outside.{RisesWhere};
+ghost use Rattle.std.specs.Prelude.{◌≡◌, ◌+◌, IfOk, IfSome};
+ghost use Rattle.rv_base.specs.Outside.{RisesWhere, MayRise};
 ghost use Rattle.rv_base.specs.Whole.{TakesAtMost, file_limit};
 ghost use Rattle.rvc_top.specs.Texts.{too_long_text, fault_text};
 ghost use Rattle.rvc_top.specs.Forms.{FileForm};
-ghost use Rattle.rvc_top.specs.FileRead.{IsFile, IsRead, HasLines, ReadToEnd, is_read_error};
+ghost use Rattle.rvc_top.specs.FileRead.{IsFile, IsRead, HasLines, ReadToEnd};
+ghost use Rattle.rvc_top.specs.FileRead.{reading_failed, reading_wants};
 
-use crate::reply::Fault;
+use crate::reply::Failure;
 use proto_model::Protocol;
 use protocol_reader::{ReadError, Spelled, read};
 use rv_base::{FILE_LIMIT, Gathered, NoMemory, Source, read_whole};
@@ -33,13 +34,12 @@ pub trait FromFile: Drop {
 
     /// Reads the protocol file to its end, or to one byte past the limit of its form, and takes it
     /// for the value that it holds.
-    fn from_file<P: Source>(alloc: Global, protocol: &mut P) -> Result<FileRead<Self>, Fault>
-        ensures bytes { IfSome (P.left protocol.old) (λ file. IfOk result (IsFile form file)) }
-        ensures end { IfOk result (ReadToEnd (P.left protocol.new) (P.ended protocol.new)) }
-        ensures taken { TakesAtMost (form.limit + 1) (P.left protocol.old) (P.left protocol.new) }
-        ensures gave { IfOk result (λ _. P.refused protocol.new ≡ false) }
-        ensures count { RisesWhere (is_read_error result)
-            (P.faults protocol.old) (P.faults protocol.new) };
+    fn from_file<P: Source>(alloc: Global, file: &mut P) -> Result<FileRead<Self>, Failure>
+        ensures bytes { IfSome (P.left file.old) (λ f. IfOk result (IsFile form f)) }
+        ensures end { IfOk result (ReadToEnd (P.left file.new) (P.ended file.new)) }
+        ensures taken { TakesAtMost (form.limit + 1) (P.left file.old) (P.left file.new) }
+        ensures count { RisesWhere (reading_failed result) (P.faults file.old) (P.faults file.new) }
+        ensures wants { MayRise (reading_wants result) (P.wants file.old) (P.wants file.new) };
 }
 
 impl FromFile for Protocol {
@@ -47,8 +47,8 @@ impl FromFile for Protocol {
 
     ghost form = { spelled_form };
 
-    fn from_file<P: Source>(alloc: Global, protocol: &mut P) -> Result<FileRead<Protocol>, Fault> {
-        match read_file(alloc, protocol)? {
+    fn from_file<P: Source>(alloc: Global, file: &mut P) -> Result<FileRead<Protocol>, Failure> {
+        match read_file(alloc, file)? {
             FileRead::Holds(spelled) => Ok(FileRead::Holds(spelled.protocol)),
             FileRead::Refused(text) => Ok(FileRead::Refused(text)),
         }
@@ -57,20 +57,19 @@ impl FromFile for Protocol {
 
 /// Reads the protocol file to its end, or to one byte past the limit of a file, as the protocol
 /// that it spells.
-pub fn read_file<P: Source>(alloc: Global, protocol: &mut P) -> Result<FileRead<Spelled>, Fault>
-    ensures bytes { IfSome (P.left protocol.old) (λ file. IfOk result (IsRead file)) }
+pub fn read_file<P: Source>(alloc: Global, file: &mut P) -> Result<FileRead<Spelled>, Failure>
+    ensures bytes { IfSome (P.left file.old) (λ f. IfOk result (IsRead f)) }
     ensures lines { IfOk result HasLines }
-    ensures end { IfOk result (ReadToEnd (P.left protocol.new) (P.ended protocol.new)) }
-    ensures taken { TakesAtMost (file_limit + 1) (P.left protocol.old) (P.left protocol.new) }
-    ensures gave { IfOk result (λ _. P.refused protocol.new ≡ false) }
-    ensures count { RisesWhere (is_read_error result)
-        (P.faults protocol.old) (P.faults protocol.new) }
+    ensures end { IfOk result (ReadToEnd (P.left file.new) (P.ended file.new)) }
+    ensures taken { TakesAtMost (file_limit + 1) (P.left file.old) (P.left file.new) }
+    ensures count { RisesWhere (reading_failed result) (P.faults file.old) (P.faults file.new) }
+    ensures wants { MayRise (reading_wants result) (P.wants file.old) (P.wants file.new) }
 {
-    match read_whole(alloc, protocol, FILE_LIMIT) {
+    match read_whole(alloc, file, FILE_LIMIT) {
         Gathered::Whole(bytes) => Ok(file_of(alloc, &bytes)?),
         Gathered::TooLong => Ok(FileRead::Refused(too_long(alloc)?)),
-        Gathered::Failed => Err(Fault::Read),
-        Gathered::NoMemory => Err(Fault::NoMemory),
+        Gathered::Failed => Err(Failure::Read),
+        Gathered::NoMemory => Err(Failure::NoMemory),
     }
 }
 

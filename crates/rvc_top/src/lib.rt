@@ -6,10 +6,10 @@
 //! - `top`: the call itself, which does what the words ask.
 //! - `file` and `checked_file`: the protocol file, read to its end and taken for the value that a
 //!   command wants of it, or refused.
-//! - `telling`: a command that reads the file alone; `tellings`: what each of them says of the
-//!   value that the file holds.
-//! - `replay`: a schedule is replayed by any player; `rv`: on the rendezvous meaning of the file's
-//!   protocol, up to where a claim of the file is broken.
+//! - `file_command`: a command that reads the file alone, and how it is run; `file_commands`: each
+//!   of them, with the text that it writes of the value that the file holds.
+//! - `replay`: a schedule is replayed by any player, up to where a claim of the file is broken;
+//!   `rv`: on the rendezvous meaning of the file's protocol; `run`: on its two controllers.
 //! - `reply`: a text is written, and the run ends with it.
 //! - `example`: the example protocols.
 //! - `steady`: the call over sources and a sink that never fail.
@@ -24,17 +24,18 @@ mod checked_file;
 mod command;
 mod example;
 mod file;
+mod file_command;
+mod file_commands;
 mod laws;
 mod replay;
 mod reply;
+mod run;
 mod rv;
 mod status;
 mod steady;
-mod telling;
-mod tellings;
 mod top;
 
-pub use command::{Command, words_mean};
+pub use command::{Command, Driving, words_mean};
 pub use example::{Example, example_text};
 pub use laws::{every_run_is_decided, every_verdict_is_one};
 pub use status::Status;

@@ -1,11 +1,11 @@
 //! A schedule is replayed by a player, and the run ends with it.
 
-ghost use Rattle.std.specs.Prelude.{◌≡◌, ◌⊎◌, ◌<◌, ◌^◌, false, not, ◌&&◌, IfOk};
-ghost use Rattle.rv_base.specs.Outside.{RisesWhere};
-ghost use Rattle.schedule_replay.specs.Replayed.{is_write_fault};
+ghost use Rattle.std.specs.Prelude.{◌≡◌, ◌<◌, ◌^◌, not, ◌&&◌, IfOk};
+ghost use Rattle.rv_base.specs.Outside.{RisesWhere, MayRise};
+ghost use Rattle.schedule_replay.specs.Replayed.{replay_write_failed};
 ghost use Rattle.rvc_top.specs.Texts.{bad_line_text};
 ghost use Rattle.rvc_top.specs.Commands.{played_so};
-ghost use Rattle.rvc_top.specs.Endings.{IsDecided, kind_of, write_failed};
+ghost use Rattle.rvc_top.specs.Endings.{kind_of, run_write_failed, run_wants};
 ghost use Rattle.rvc_top.specs.Reply.{Delivers, Concludes};
 ghost use Rattle.rvc_top.specs.Runs.{IsReplay, seen_source, seen_sink};
 
@@ -28,8 +28,8 @@ pub fn replay<R: Player, Q: Source, O: Sink>(
 ) -> Status
     requires { limits.line < 2 ^ 32 }
     ensures { IsReplay (played_so R.play limits player.old) limits
-        (seen_source Q.left Q.faults Q.ended Q.refused schedule.old schedule.new)
-        (seen_sink O.taken O.faults O.refused out.old out.new) result }
+        (seen_source Q.left Q.faults Q.wants Q.ended schedule.old schedule.new)
+        (seen_sink O.taken O.faults O.wants out.old out.new) result }
 {
     let replayed = play_schedule(alloc, limits, player, schedule, out);
     conclude(alloc, replayed, out)
@@ -38,9 +38,10 @@ pub fn replay<R: Player, Q: Source, O: Sink>(
 // How the run ends whose replay ended so. Where the schedule is refused, says so in `out`.
 fn conclude<O: Sink>(alloc: Global, replayed: Replayed, out: &mut O) -> Status
     ensures bytes { Concludes (O.taken out.old) (O.taken out.new) replayed result }
-    ensures counts { RisesWhere (not (is_write_fault replayed) && write_failed (kind_of result))
+    ensures counts { RisesWhere
+        (not (replay_write_failed replayed) && run_write_failed (kind_of result))
         (O.faults out.old) (O.faults out.new) }
-    ensures written { IsDecided result → (out.new ≡ out.old) ⊎ (O.refused out.new ≡ false) }
+    ensures wants { MayRise (run_wants (kind_of result)) (O.wants out.old) (O.wants out.new) }
 {
     match replayed {
         Replayed::Done => Status::Done,
@@ -57,9 +58,9 @@ fn conclude<O: Sink>(alloc: Global, replayed: Replayed, out: &mut O) -> Status
 fn refuse_line<O: Sink>(alloc: Global, line: u32, out: &mut O) -> Status
     ensures bytes { Delivers (O.taken out.old) (O.taken out.new)
         (bad_line_text line) Status.ScheduleRefused result }
-    ensures counts { RisesWhere (write_failed (kind_of result))
+    ensures counts { RisesWhere (run_write_failed (kind_of result))
         (O.faults out.old) (O.faults out.new) }
-    ensures written { IsDecided result → (out.new ≡ out.old) ⊎ (O.refused out.new ≡ false) }
+    ensures wants { MayRise (run_wants (kind_of result)) (O.wants out.old) (O.wants out.new) }
 {
     match bad_line(alloc, line) {
         Ok(text) => deliver(out, Status::ScheduleRefused, &text),

@@ -1,11 +1,11 @@
 //! A text to be written, and how a run ends with it.
 
-ghost use Rattle.std.specs.Prelude.{◌≡◌, ◌⊎◌, false};
+ghost use Rattle.std.specs.Prelude.{◌≡◌};
 ghost use Rattle.std.specs.Result.{ForOk};
-ghost use Rattle.rv_base.specs.Outside.{RisesWhere};
-ghost use Rattle.rvc_top.specs.Endings.{IsDecided, kind_of, write_failed};
+ghost use Rattle.rv_base.specs.Outside.{RisesWhere, MayRise};
+ghost use Rattle.rvc_top.specs.Endings.{IsDecided, kind_of, run_write_failed, run_wants};
 ghost use Rattle.rvc_top.specs.Reply.{Delivers, Finishes};
-ghost use Rattle.rvc_top.specs.declared.reply.Fault.TheVariants as fault;
+ghost use Rattle.rvc_top.specs.declared.reply.Failure.TheVariants as failure;
 
 use crate::Status;
 use rv_base::{NoMemory, Sink, Wrote, write_whole};
@@ -19,29 +19,29 @@ pub struct Reply {
 
 /// Why there is no reply.
 #[derive(Clone, Copy, Debug, PartialEq, Eq, Drop)]
-pub enum Fault {
-    /// A source failed.
+pub enum Failure {
+    /// A read of the file failed.
     Read,
-    /// There is no memory, or a source had none for a read.
+    /// There is no memory, or the file had none for a read.
     NoMemory,
 }
 
-impl From<NoMemory> for Fault {
-    ghost from_gives = { λ _ e. e ≡ fault.NoMemory };
+impl From<NoMemory> for Failure {
+    ghost from_gives = { λ _ e. e ≡ failure.NoMemory };
 
-    fn from(_: NoMemory) -> Fault {
-        Fault::NoMemory
+    fn from(_: NoMemory) -> Failure {
+        Failure::NoMemory
     }
 }
 
-/// Writes a text, and answers `status`; or writes a part of it, and answers what stopped the
-/// writing.
+/// Writes a text, and answers `status`, that of a verdict; or writes a front of the text and not
+/// the whole, and answers that the sink failed or that there was no memory.
 pub fn deliver<O: Sink>(out: &mut O, status: Status, text: &[u8]) -> Status
     requires { IsDecided status }
     ensures bytes { Delivers (O.taken out.old) (O.taken out.new) text.now status result }
-    ensures counts { RisesWhere (write_failed (kind_of result))
+    ensures counts { RisesWhere (run_write_failed (kind_of result))
         (O.faults out.old) (O.faults out.new) }
-    ensures written { IsDecided result → (out.new ≡ out.old) ⊎ (O.refused out.new ≡ false) }
+    ensures wants { MayRise (run_wants (kind_of result)) (O.wants out.old) (O.wants out.new) }
 {
     match write_whole(out, text) {
         Wrote::Whole => status,
@@ -50,17 +50,18 @@ pub fn deliver<O: Sink>(out: &mut O, status: Status, text: &[u8]) -> Status
     }
 }
 
-/// Writes the reply, and answers how the run ends. Where there is none, nothing is written.
-pub fn finish<O: Sink>(out: &mut O, reply: Result<Reply, Fault>) -> Status
+/// Writes the reply, and answers how the run ends. Where there is none, nothing is written, and the
+/// run ends with a read fault or for want of memory.
+pub fn finish<O: Sink>(out: &mut O, reply: Result<Reply, Failure>) -> Status
     requires { ForOk reply (λ r. IsDecided r.status) }
     ensures bytes { Finishes (O.taken out.old) (O.taken out.new) reply result }
-    ensures counts { RisesWhere (write_failed (kind_of result))
+    ensures counts { RisesWhere (run_write_failed (kind_of result))
         (O.faults out.old) (O.faults out.new) }
-    ensures written { IsDecided result → (out.new ≡ out.old) ⊎ (O.refused out.new ≡ false) }
+    ensures wants { MayRise (run_wants (kind_of result)) (O.wants out.old) (O.wants out.new) }
 {
     match reply {
         Ok(reply) => deliver(out, reply.status, &reply.text),
-        Err(Fault::Read) => Status::ReadFault,
-        Err(Fault::NoMemory) => Status::NoMemory,
+        Err(Failure::Read) => Status::ReadFault,
+        Err(Failure::NoMemory) => Status::NoMemory,
     }
 }

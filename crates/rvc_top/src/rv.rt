@@ -1,14 +1,14 @@
 //! `rv`: the trace of a schedule of events on the rendezvous meaning of the file's protocol.
 
 ghost use Rattle.std.specs.Prelude.{◌≤◌, Some};
-ghost use Rattle.schedule_replay.specs.Limits.{schedule_limits};
+ghost use Rattle.schedule_replay.specs.ScheduleLimits.{schedule_limits};
 ghost use Rattle.rvc_top.specs.Commands.{describe, rv_replay};
 ghost use Rattle.rvc_top.specs.Runs.{IsRun, IsReplay, seen_source, seen_sink};
 
 use crate::file::{FileRead, FromFile};
+use crate::file_command::refusal;
 use crate::replay::replay;
 use crate::reply::finish;
-use crate::telling::refusal;
 use crate::{Command, Status};
 use rv_base::{NoMemory, Sink, Source};
 use schedule_replay::{RvPlayer, SCHEDULE_LIMITS};
@@ -21,20 +21,20 @@ use std::alloc::Global;
 pub fn rv<P: Source, Q: Source, O: Sink>(
     alloc: Global,
     n: u8,
-    protocol: &mut P,
+    file: &mut P,
     schedule: &mut Q,
     out: &mut O,
 ) -> Status
     requires { (1 ≤ n) × (n ≤ 64) }
     ensures { IsRun (describe (Some (Command.Rv n))).task
-        (seen_source P.left P.faults P.ended P.refused protocol.old protocol.new)
-        (seen_source Q.left Q.faults Q.ended Q.refused schedule.old schedule.new)
-        (seen_sink O.taken O.faults O.refused out.old out.new) result }
+        (seen_source P.left P.faults P.wants P.ended file.old file.new)
+        (seen_source Q.left Q.faults Q.wants Q.ended schedule.old schedule.new)
+        (seen_sink O.taken O.faults O.wants out.old out.new) result }
 {
-    match Checked::from_file(alloc, protocol) {
+    match Checked::from_file(alloc, file) {
         Ok(FileRead::Holds(checked)) => replay_rv(alloc, n, &checked, schedule, out),
         Ok(FileRead::Refused(text)) => finish(out, Ok(refusal(text))),
-        Err(fault) => finish(out, Err(fault)),
+        Err(failure) => finish(out, Err(failure)),
     }
 }
 
@@ -48,8 +48,8 @@ fn replay_rv<Q: Source, O: Sink>(
 ) -> Status
     requires { (1 ≤ n) × (n ≤ 64) }
     ensures { IsReplay (rv_replay n checked.now) schedule_limits
-        (seen_source Q.left Q.faults Q.ended Q.refused schedule.old schedule.new)
-        (seen_sink O.taken O.faults O.refused out.old out.new) result }
+        (seen_source Q.left Q.faults Q.wants Q.ended schedule.old schedule.new)
+        (seen_sink O.taken O.faults O.wants out.old out.new) result }
 {
     match RvPlayer::new(alloc, checked, n) {
         Ok(mut player) => replay(alloc, SCHEDULE_LIMITS, &mut player, schedule, out),

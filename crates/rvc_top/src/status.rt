@@ -14,15 +14,17 @@ pub enum Status {
     /// The schedule has a malformed line, one that is too long, or too many lines, and no claim is
     /// broken before. The trace of the lines before is written, and the text that says so.
     ScheduleRefused = 3,
-    /// A source that the command uses failed. Nothing is written after it.
+    /// A read failed of a source that the command uses. Where it was one of the file, nothing is
+    /// written; where it was one of the schedule, the blocks of the lines whose LF was taken are.
     ReadFault = 4,
     /// The sink failed. A front of what the run would have written is written.
     WriteFault = 5,
     /// There was no memory, or a source or the sink had none for a call. A front of what the run
     /// would have written is written.
     NoMemory = 6,
-    /// A claim of the file is broken where the schedule is played, at the start or after a line.
-    /// The blocks of the lines up to there are written, behind them the line that names the claim,
-    /// and the last text. No line after that one was played.
+    /// A claim of the file is broken before the first line of the schedule, which was not read
+    /// then, or after a line, and no line up to there is refused. The blocks of these lines are
+    /// written, behind them the line that names the first claim that is broken there, and the last
+    /// text. No line after that one was played.
     ClaimBroken = 7,
 }

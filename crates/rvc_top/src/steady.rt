@@ -1,6 +1,6 @@
 //! The call over sources and a sink in memory that never fail.
 
-ghost use Rattle.std.specs.Prelude.{◌≢◌, map, string_bytes, Some};
+ghost use Rattle.std.specs.Prelude.{◌≢◌, Some};
 ghost use Rattle.rvc_top.specs.Verdict.{Verdict};
 ghost use Rattle.rvc_top.specs.Endings.{Written};
 
@@ -13,15 +13,15 @@ use std::alloc::Global;
 pub fn rvc_steady(
     alloc: Global,
     words: &[String],
-    protocol: &mut SteadySource,
+    file: &mut SteadySource,
     schedule: &mut SteadySource,
     out: &mut SteadySink,
 ) -> Status
     ensures read_fault { result ≢ Status.ReadFault }
     ensures write_fault { result ≢ Status.WriteFault }
     ensures whole { result ≢ Status.NoMemory
-        → Written (Verdict (map string_bytes words.now) protocol.old.left schedule.old.left)
+        → Written (Verdict words.now file.old.left schedule.old.left)
         out.old.taken (Some out.new.taken) result }
 {
-    rvc(alloc, words, protocol, schedule, out)
+    rvc(alloc, words, file, schedule, out)
 }

@@ -8,6 +8,6 @@ use Rattle.rvc_top.proofs.checked_file.CheckedFromFile.from_file.Goals as goal
 pub returns-in_ok-check_spelled-in-Holds-clause-bytes :
     goal.returns-in_ok-check_spelled-in-Holds-clause-bytes
 returns-in_ok-check_spelled-in-Holds-clause-bytes g c =
-    IfSome_then (g.P.Source.left c.args.protocol.now) c.in_ok-spelled.ensures.bytes (λ file reads.
+    IfSome_then (g.P.Source.left c.args.file.now) c.in_ok-spelled.ensures.bytes (λ file reads.
     file-checked file c.in-Holds.spelled c.in_ok-check_spelled-in-Holds.field-0
     (subst (IsRead file) c.in-Holds.is reads) c.in_ok-check_spelled-in-Holds.ensures)

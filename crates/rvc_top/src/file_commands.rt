@@ -1,6 +1,8 @@
-//! What each command that reads the protocol file alone says of the value that the file holds.
+//! The commands that read the protocol file alone, and the text of each.
 
-use crate::telling::Telling;
+use crate::Driving;
+use crate::file_command::FileCommand;
+use drive_report::{drive, summary_text};
 use home_refine::compile;
 use proto_model::{Mode, Protocol};
 use rv_base::{NoMemory, put_number};
@@ -12,10 +14,12 @@ use table_printer::{table_json, table_text};
 #[derive(Clone, Copy, Debug)]
 pub struct Print;
 
-impl Telling for Print {
+impl FileCommand for Print {
     ghost use Rattle.proto_model.specs.LaidOut.{laid_out};
 
     type Value = Protocol;
+
+    ghost Numbers = { λ _. Unit {0} };
 
     ghost text = { λ _ protocol. laid_out protocol };
 
@@ -30,10 +34,12 @@ impl Telling for Print {
 #[derive(Clone, Copy, Debug)]
 pub struct Check;
 
-impl Telling for Check {
+impl FileCommand for Check {
     ghost use Rattle.rvc_top.specs.Texts.{ok_text};
 
     type Value = Checked;
+
+    ghost Numbers = { λ _. Unit {0} };
 
     ghost text = { λ _ checked. ok_text checked.protocol };
 
@@ -63,13 +69,15 @@ impl Telling for Check {
 #[derive(Clone, Copy, Debug)]
 pub struct TableText(pub Mode);
 
-impl Telling for TableText {
+impl FileCommand for TableText {
     ghost use Rattle.controller_table.specs.Sound.{table_in};
     ghost use Rattle.table_printer.specs.TableText as of_text;
 
     type Value = Checked;
 
-    ghost text = { λ telling checked. of_text.table_text (table_in checked.protocol telling.0) };
+    ghost Numbers = { λ _. Unit {0} };
+
+    ghost text = { λ command checked. of_text.table_text (table_in checked.protocol command.0) };
 
     fn text(&self, alloc: Global, checked: &Checked) -> Result<Vec<u8>, NoMemory> {
         let mut text = Vec::new(alloc);
@@ -82,17 +90,45 @@ impl Telling for TableText {
 #[derive(Clone, Copy, Debug)]
 pub struct TableJson(pub Mode);
 
-impl Telling for TableJson {
+impl FileCommand for TableJson {
     ghost use Rattle.controller_table.specs.Sound.{table_in};
     ghost use Rattle.table_printer.specs.TableJson as of_json;
 
     type Value = Checked;
 
-    ghost text = { λ telling checked. of_json.table_json (table_in checked.protocol telling.0) };
+    ghost Numbers = { λ _. Unit {0} };
+
+    ghost text = { λ command checked. of_json.table_json (table_in checked.protocol command.0) };
 
     fn text(&self, alloc: Global, checked: &Checked) -> Result<Vec<u8>, NoMemory> {
         let mut text = Vec::new(alloc);
         table_json(alloc, &compile(alloc, checked, self.0)?, &mut text)?;
+        Ok(text)
+    }
+}
+
+/// What is counted over a run of the protocol's controllers that a number chooses.
+impl FileCommand for Driving {
+    ghost use Rattle.rvc_top.specs.Commands.{AreDrivable, drive_text};
+
+    type Value = Checked;
+
+    ghost Numbers = { AreDrivable };
+
+    ghost text = { drive_text };
+
+    fn text(&self, alloc: Global, checked: &Checked) -> Result<Vec<u8>, NoMemory> {
+        let table = compile(alloc, checked, self.mode)?;
+        let summary = drive(
+            alloc,
+            &table,
+            self.remotes,
+            self.slots,
+            self.turns,
+            self.seed,
+        )?;
+        let mut text = Vec::new(alloc);
+        summary_text(alloc, &summary, &mut text)?;
         Ok(text)
     }
 }
