@@ -83,7 +83,7 @@ fn check_tells_a_syntax_fault_by_its_line(rt: HostRuntime) -> Result<(), Wrong> 
 }
 
 // Words that no command has, or has in another form.
-const NO_FORM: [&[&str]; 24] = [
+const NO_FORM: [&[&str]; 26] = [
     &[],
     &["print"],
     &["print", "p", "p"],
@@ -106,8 +106,10 @@ const NO_FORM: [&[&str]; 24] = [
     &["json", "lean", "p"],
     &["example"],
     &["example", "migratory", "lean"],
-    &["run", "p", "1", "2", "plain"],
-    &["drive", "p", "1", "2", "plain", "6", "7"],
+    &["run", "p", "1", "plain"],
+    &["drive", "p", "1", "2", "plain", "6"],
+    &["lossy", "p", "1", "2", "plain"],
+    &["store", "p", "plain"],
 ];
 
 // That these words end with a usage error, and nothing is read.

@@ -18,9 +18,9 @@ impl Source for Endless {
 
     ghost faults = { λ _. 0 };
 
-    ghost ended = { λ _. false };
+    ghost wants = { λ _. 0 };
 
-    ghost refused = { λ _. false };
+    ghost ended = { λ _. false };
 
     fn read(&mut self, into: &mut [u8]) -> ReadAnswer {
         into.fill(self.0);

@@ -27,3 +27,4 @@ pub use protocols::{
     ARITH, HOLD, HOLD_LINE, INVALIDATE, MIGRATORY, MIGRATORY_2, SMALL, STILL, STILL_LINE,
     migratory_body,
 };
+pub use runs::joined;

@@ -13,7 +13,8 @@ pub fn strings(alloc: Global, words: &[&str]) -> Result<Vec<String>, NoMemory> {
     Ok(strings)
 }
 
-fn joined(alloc: Global, pieces: &[&[u8]]) -> Result<Vec<u8>, NoMemory> {
+/// The bytes of these pieces, one behind the other.
+pub fn joined(alloc: Global, pieces: &[&[u8]]) -> Result<Vec<u8>, NoMemory> {
     let mut bytes = Vec::new(alloc);
     for piece in pieces {
         bytes.extend_from_slice(piece)?;

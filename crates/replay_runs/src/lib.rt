@@ -1,5 +1,6 @@
-//! Tests of the commands that replay a schedule: whole runs in memory.
+//! Tests of the command `rv`: whole runs in memory.
 //!
+//! - `replayed`: a run of `rv`, and how it must end.
 //! - `rv`: events replayed on a protocol.
 //! - `lines`: lines that say nothing, or say no event.
 //! - `lengths`: how long a line and a schedule may be, and what is read of them.
