@@ -48,6 +48,25 @@ EVENTS = """  tau home G     a local step of the home, by guard G of its state
   down J H R     the home sends by its guard H, and remote J takes it by its guard R
 A line may also be blank; `//` begins a comment. Guards and remotes are counted from 0."""
 
+STEPS = """  home tau G       a local step of the home, by guard G of its state
+  home take J      the home takes the request that it holds of remote J
+  home send G J    the home sends to remote J by its guard G: the reply that it owes J, or a request
+  home drop J      the home gives up the request that it holds of remote J
+  remote J tau G   a local step of remote J, by guard G of its state
+  remote J send    remote J sends its request
+  remote J answer  remote J answers the request in its slot
+  remote J reply   remote J sends the reply that is due
+  up J             the first packet on the up link of remote J arrives at the home
+  down J           the first packet on the down link of remote J arrives there
+A line may also be blank; `//` begins a comment. Guards and remotes are counted from 0."""
+
+# Of each command that reads a schedule: what its lines are called, their forms, and the section of
+# FORMATS.md that has them.
+SCHEDULES = {
+    "rv": ("event", EVENTS, "Schedules of events"),
+    "run": ("step", STEPS, "Schedules of steps"),
+}
+
 
 class Again:
     """Has the program answer once more, where what it read can be read once more."""
@@ -152,11 +171,11 @@ def explanation(words, status, again):
     if status == 2:
         return refused_file(path, again)
     if status == 3 and reads:
-        return refused_schedule(again)
+        return refused_schedule(words[0], again)
     if status == 4:
         return unreadable(path, reads)
     if status == 7 and reads:
-        return broken_claim(path, again)
+        return broken_claim(words[0], path, again)
     return []
 
 
@@ -288,25 +307,26 @@ def why(misfit):
 
 # Status 3.
 
-def refused_schedule(again):
+def refused_schedule(command, again):
     """Status 3."""
+    _, forms, section = SCHEDULES[command]
     status, answer = again.replay()
     last = answer[:-1].split(b"\n")[-1] if status == 3 else b""
     found = re.fullmatch(rb"error schedule line (\d+)", last)
-    more = ["More: " + page("FORMATS.md", "Schedules of events")]
+    more = ["More: " + page("FORMATS.md", section)]
     if last == b"error schedule too long":
         return ["The schedule is refused (status 3): it has more than 1,000,000 lines."] + more
     if not found:
         return ["A line of the schedule is refused (status 3); the last line on standard output "
-                "has its number. A line has at most 256 bytes, and is one of:", EVENTS] + more
+                "has its number. A line has at most 256 bytes, and is one of:", forms] + more
     number = int(found.group(1))
     line = schedule_line(again.schedule(), number)
     if line is None:
         return ["Line %d of the schedule is refused (status 3). A line has at most 256 bytes, "
-                "and is one of:" % number, EVENTS] + more
+                "and is one of:" % number, forms] + more
     told = ["Line %d of the schedule is refused (status 3):" % number]
     told.append("%6d | %s" % (number, seen(line[:90].decode("latin-1")).rstrip()))
-    return told + [line_fault(line), EVENTS] + more
+    return told + [line_fault(command, line), forms] + more
 
 
 def schedule_line(descriptor, number):
@@ -325,24 +345,47 @@ def schedule_line(descriptor, number):
     return line[:-1] if line.endswith(b"\n") else line
 
 
-def line_fault(line):
-    """Why a line is no event, as a sentence; the forms of an event follow it."""
+def line_fault(command, line):
+    """Why a line is no event or no step, as a sentence; the forms of one follow it."""
     if len(line) > LINE_LIMIT:
         return "It has more than 256 bytes, with its blanks and its comment. A line is one of:"
     words = [word for word in re.split("[ \t\r]+", line.decode("latin-1").split("//")[0]) if word]
-    if words and words[0] not in ("tau", "up", "down"):
-        return "`%s` begins no event. A line is one of:" % seen(words[0])
-    count = {"tau": 2, "up": 3, "down": 3}.get(words[0] if words else "", 0)
-    if words and len(words) - 1 != count:
-        return "Behind `%s` stand %d words, and here are %d. A line is one of:" % (
-            words[0], count, len(words) - 1)
-    for place, word in enumerate(words[1:]):
-        if words[0] == "tau" and place == 0 and word == "home":
+    told = words_fault(SCHEDULES[command], words) if words else ""
+    return told + "A line is one of:"
+
+
+def words_fault(schedule, words):
+    """Why these words are none of the forms, as a sentence with a space behind it; nothing where
+    that can't be told."""
+    kind, text, _ = schedule
+    forms = [row[2:].split("  ")[0].split(" ") for row in text.split("\n") if row[:2] == "  "]
+    likely = [form for form in forms if form[0] == words[0]]
+    if not likely:
+        return "`%s` begins no %s. " % (seen(words[0]), kind)
+    # A word that tells one form from another: `home`, or what is done.
+    for place in (1, 2):
+        named = [form[place] for form in likely if len(form) > place and form[place].islower()]
+        if not named or len(words) <= place:
             continue
-        if not re.fullmatch("0|[1-9][0-9]{0,4}", word):
+        exact = [form for form in likely if len(form) > place and form[place] == words[place]]
+        if exact:
+            likely = exact
+            break
+        if len(named) == len(likely):
+            return "Behind `%s` stands %s or %s, and here is `%s`. " % (
+                " ".join(likely[0][:place]), ", ".join(named[:-1]), named[-1], seen(words[place]))
+        likely = [form for form in likely if not form[place].islower()]
+    form = likely[0]
+    if len(words) != len(form):
+        lengths = sorted({len(form) - 1 for form in likely})
+        count = "stands 1 word" if lengths == [1] else "stand %d words" % lengths[0]
+        count += " or more" if len(lengths) > 1 else ""
+        return "Behind `%s` %s, and here are %d. " % (form[0], count, len(words) - 1)
+    for name, word in zip(form, words):
+        if not name.islower() and not re.fullmatch("0|[1-9][0-9]{0,4}", word):
             return ("`%s` is no number here: it is 0, or has up to five digits and no leading "
-                    "zero. A line is one of:" % seen(word))
-    return "A line is one of:"
+                    "zero. " % seen(word))
+    return ""
 
 
 # Status 4 and 5.
@@ -416,7 +459,7 @@ def unwritten():
 
 # Status 7.
 
-def broken_claim(path, again):
+def broken_claim(command, path, again):
     """Status 7."""
     more = ["More: " + page("LANGUAGE.md", "Claims")]
     text = again.file(path)
@@ -429,7 +472,7 @@ def broken_claim(path, again):
             pass
     status, answer = again.replay()
     if status != 7 and text is not None:
-        # What breaks before any event does so over an empty schedule too.
+        # What breaks before any event or step does so over an empty schedule too.
         status, answer = again.run(again.words)
     found = None
     if status == 7:
@@ -437,10 +480,11 @@ def broken_claim(path, again):
     if found and int(found.group(1)) < len(claims):
         number = int(found.group(1))
         told = ["%s:%d: claim %d is broken (status 7)%s" % (
-            shown(path), claims[number].line, number, moment(answer[: found.start()]))]
+            shown(path), claims[number].line, number, moment(command, answer[: found.start()]))]
         told += source_line(text, claims[number].line, claims[number].first.begin)
         told.append("It says that " + in_words(claims[number]) + ".")
-        return told + standing(claims[number], found.group(2)) + more
+        # Of a run claims speak of what the controllers stand for.
+        return told + standing(claims[number], found.group(2).split(b"abstract\n")[-1]) + more
     told = ["A claim of %s is broken (status 7)." % shown(path)]
     if len(claims) == 1:
         told.append("The file has one, on line %d: %s." % (claims[0].line, in_words(claims[0])))
@@ -454,12 +498,12 @@ def broken_claim(path, again):
     return told + more
 
 
-def moment(before):
-    """When a claim is broken: behind which event."""
-    events = re.findall(rb"(?:^|\n)(\d+) ((?:tau|up|down) [a-z0-9 ]+): moved(?=\n|\Z)", before)
-    if events:
-        number, event = (part.decode() for part in events[-1])
-        return " after event %s, `%s`" % (number, event)
+def moment(command, before):
+    """When a claim is broken: behind which event or step."""
+    items = re.findall(rb"(?:^|\n)(\d+) ([a-z0-9 ]+): (?!refused)[^\n]+(?=\n|\Z)", before)
+    if items:
+        number, item = (part.decode() for part in items[-1])
+        return " after %s %s, `%s`" % (SCHEDULES[command][0], number, item)
     return " at the start" if not before else ""
 
 

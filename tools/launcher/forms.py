@@ -7,14 +7,18 @@ FORMS = {
     "print": ["PATH"],
     "check": ["PATH"],
     "rv": ["PATH", "N"],
+    "run": ["PATH", "N", "K", "MODE"],
+    "drive": ["PATH", "N", "K", "MODE", "COUNT", "SEED"],
     "table": ["PATH", "MODE"],
     "json": ["PATH", "MODE"],
     "example": ["NAME"],
 }
-READ_STANDARD_INPUT = ["rv"]
+READ_STANDARD_INPUT = ["rv", "run"]
 MODES = ["plain", "lean"]
 EXAMPLES = ["migratory", "invalidate"]
-PLACES = ["first", "second", "third", "fourth"]
+PLACES = ["first", "second", "third", "fourth", "fifth", "sixth", "seventh"]
+MOST_TURNS = 100000
+MOST_SEED = 2**64 - 1
 
 
 def is_text(word):
@@ -27,6 +31,13 @@ def path_in(words):
     if word_fault(words) is None and FORMS[words[0]][0] == "PATH":
         return words[1]
     return None
+
+
+def is_number(word, most):
+    """Says whether a word is a number up to this one, in decimal without leading zeros."""
+    digits = len(str(most))
+    return re.fullmatch("0|[1-9][0-9]*", word) is not None and len(word) <= digits and (
+        int(word) <= most)
 
 
 def word_fault(words):
@@ -66,7 +77,10 @@ def word_fault(words):
 
 MEANT = {
     "PATH": lambda word: True,
-    "N": lambda word: re.fullmatch("[1-9][0-9]?", word) is not None and int(word) <= 64,
+    "N": lambda word: is_number(word, 64) and int(word) >= 1,
+    "K": lambda word: is_number(word, 64) and int(word) >= 2,
+    "COUNT": lambda word: is_number(word, MOST_TURNS),
+    "SEED": lambda word: is_number(word, MOST_SEED),
     "MODE": lambda word: word in MODES,
     "NAME": lambda word: word in EXAMPLES,
 }
@@ -77,7 +91,12 @@ def meaning(name):
     return {
         "PATH": "PATH is the path of a protocol file.",
         "N": "N is from 1 to 64, in decimal without leading zeros: the number of remotes.",
+        "K": "K is from 2 to 64, in decimal without leading zeros: the number of the home's slots.",
         "MODE": "MODE is plain or lean.",
+        "COUNT": "COUNT is from 0 to %d, in decimal without leading zeros: the most steps that are "
+        "taken." % MOST_TURNS,
+        "SEED": "SEED is from 0 to %d, in decimal without leading zeros: the number that chooses "
+        "the steps." % MOST_SEED,
         "NAME": "NAME is migratory or invalidate.",
     }[name]
 
