@@ -21,7 +21,7 @@ use Rattle.async_shape.specs.View.{View, view_at}
 use Rattle.async_shape.specs.Phase.{RequestsCross, RequestCrossed, AnswerGoes, AnswerThenRequestGo}
 use Rattle.async_shape.specs.Phase.{as_packet, IsAnswerTo, Case}
 use Rattle.async_shape.specs.Shape.{IsWaitingHome, IsHomePlace, IsWhole, IsShaped}
-use Rattle.async_shape.specs.Bounded.{is_request}
+use Rattle.ordered_links.specs.Packets.{is_request}
 use Rattle.async_shape.specs.declared.config.HomeState.{HomeState}
 use Rattle.async_shape.specs.declared.config.HomePlace.TheVariants.{Waits}
 use Rattle.async_shape.specs.declared.config.Request.{Request}

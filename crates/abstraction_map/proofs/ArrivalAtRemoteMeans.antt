@@ -22,7 +22,7 @@ use Rattle.async_shape.specs.Next.{StepOutcome, remote_moved, outcome}
 use Rattle.async_shape.specs.View.{View, view_at}
 use Rattle.async_shape.specs.Phase.{AnswerComes, Case}
 use Rattle.async_shape.specs.Shape.{IsShaped}
-use Rattle.async_shape.specs.Bounded.{is_request}
+use Rattle.ordered_links.specs.Packets.{is_request}
 use Rattle.async_shape.specs.declared.config.RemoteState.{RemoteState}
 use Rattle.async_shape.specs.declared.step.Step.TheVariants as step
 use Rattle.async_shape.proofs.ShapeParts.{IsShaped-case}

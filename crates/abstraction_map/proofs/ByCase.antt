@@ -27,7 +27,7 @@ use Rattle.async_shape.specs.RemoteSteps.{down_waiting}
 use Rattle.async_shape.specs.View.{View, awaited_at, view_at}
 use Rattle.async_shape.specs.Phase.{Phase}
 use Rattle.async_shape.specs.Shape.{IsWaitingHome, IsHomePlace, IsWhole}
-use Rattle.async_shape.specs.Bounded.{is_request}
+use Rattle.ordered_links.specs.Packets.{is_request}
 use Rattle.async_shape.specs.declared.config.HomeState.{HomeState}
 use Rattle.async_shape.specs.declared.config.HomePlace.{HomePlace}
 use Rattle.async_shape.specs.declared.config.HomePlace.TheVariants.{Idle, Waits}

@@ -16,7 +16,7 @@ use Rattle.async_shape.proofs.EveryStepKeep.{IsShaped-next}
 use Rattle.async_shape.proofs.PutsHaveRoom.{HasRoomFor, put-room}
 use Rattle.async_machine.specs.Arriving.{IsLinked}
 use Rattle.async_machine.specs.Moves.{HasRoom, put_said, Shown, StepMoves}
-use Rattle.async_machine.specs.Standing.{setting_of, standing_so, IsStanding}
+use Rattle.async_machine.specs.Standing.{setting_of, config_of, IsStanding}
 use Rattle.async_machine.specs.declared.sending.Sends.{Sends}
 use Rattle.async_machine.specs.declared.sending.Sends.TheVariants as sends
 use Rattle.async_machine.proofs.Bounds.{in_range-on_links}
@@ -72,16 +72,16 @@ module _ {table : Tabled} {k : ℕ} {c : Config} {s : Step} {sends : Sends} {hom
 
   -- The machine stands in the next configuration.
   pub made-next : (links : List LinkPair) → AreLeft links
-      → next (setting_of table k) c s ≡ Some (standing_so home held remotes links)
+      → next (setting_of table k) c s ≡ Some (config_of home held remotes links)
   made-next links left = next-shown (setting_of table k) c s seen links steps left
 
   -- That has the shape.
   pub made-standing : (links : List LinkPair) → AreLeft links
-      → IsStanding table k (standing_so home held remotes links)
+      → IsStanding table k (config_of home held remotes links)
   made-standing links left = record {
     sound = made.standing.sound;
     shaped = IsShaped-next (setting_of table k) made.standing.sound.proper c
-        (standing_so home held remotes links) s made.standing.shaped (made-next links left);
+        (config_of home held remotes links) s made.standing.shaped (made-next links left);
   }
 
   -- What was put, and from where a packet was taken, is what the definition says.

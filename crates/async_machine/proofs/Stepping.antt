@@ -20,7 +20,7 @@ use Rattle.async_shape.specs.declared.config.RemoteState.{RemoteState}
 use Rattle.async_shape.specs.declared.step.Step.{Step}
 use Rattle.async_shape.specs.declared.step.Step.TheVariants as step
 use Rattle.async_machine.specs.Moves.{Shown, shown}
-use Rattle.async_machine.specs.Standing.{standing_so}
+use Rattle.async_machine.specs.Standing.{config_of}
 
 -- ---- a step takes from the link of its site
 
@@ -104,13 +104,13 @@ module _ (setting : Setting) (c : Config) where
   -- The links that are left and what is seen make the next configuration.
   pub next-shown : (s : Step) (seen : Shown) (links : List LinkPair) → Steps s seen
       → links ≡ links_left (arrival_link (site s)) (links_put seen.put c.links)
-      → next setting c s ≡ Some (standing_so seen.home seen.held seen.remotes links)
+      → next setting c s ≡ Some (config_of seen.home seen.held seen.remotes links)
   next-shown s seen links steps left =
       let home : steps.did.home ≡ seen.home = ap (λ (x : Shown). x.home) steps.shows in
       let held : steps.did.held ≡ seen.held = ap (λ (x : Shown). x.held) steps.shows in
       let remotes : steps.did.remotes ≡ seen.remotes = ap (λ (x : Shown). x.remotes) steps.shows in
       let put : steps.did.put ≡ seen.put = ap (λ (x : Shown). x.put) steps.shows in
-      let same : config_after c steps.did ≡ standing_so seen.home seen.held seen.remotes links =
+      let same : config_after c steps.did ≡ config_of seen.home seen.held seen.remotes links =
       rw (home, held, remotes, put, steps.takes, left) refl in
       ap (option_map (config_after c)) steps.is ∙ ap (λ (d : Config). Some d) same
 

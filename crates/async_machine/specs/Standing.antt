@@ -41,8 +41,8 @@ config lists machine = record {
 }
 
 -- the configuration of these parts
-abbrev pub standing_so : HomeState → List Held → List RemoteState → List LinkPair → Config
-standing_so home held remotes links =
+abbrev pub config_of : HomeState → List Held → List RemoteState → List LinkPair → Config
+config_of home held remotes links =
     record { home = home; held = held; remotes = remotes; links = links }
 
 -- the remote on which the home waits; none where it is idle

@@ -16,12 +16,13 @@ ghost use Rattle.async_shape.specs.Requests as requests;
 ghost use Rattle.async_shape.specs.Setting.{Setting};
 ghost use Rattle.async_machine.specs.Moves.{chosen};
 
-use crate::controls::{
-    accepts, guards_of, home_body, home_guard, is_output, remote_body, remote_guard,
-};
+use crate::controls::{home_body, home_guard, remote_body, remote_guard};
 use async_shape::{HomePlace, HomeState, RemoteState};
 use controller_table::{Place, Table};
-use proto_model::{Body, Rule, RuleKind, RulePartner, Value, Vars, guard_open, is_target};
+use proto_model::{
+    Body, Rule, RuleKind, RulePartner, Value, Vars, accepts, guard_open, guards_of, is_output,
+    is_target,
+};
 use slot_reserve::Held;
 
 /// A guard that was chosen: its number in its state, the guard, and the state to which it goes.

@@ -1,15 +1,14 @@
 //! What the machine asks of its table. A guard is found in the body of its process, which doesn't
 //! say where it goes; the rows tell that, and one row is looked up for it.
 
-ghost use Rattle.std.specs.Prelude.{◌≡◌, ◌<◌, ◌≤◌, ◌&&◌, length, IfSome, Some, option_copied};
+ghost use Rattle.std.specs.Prelude.{◌≡◌, ◌<◌, ◌≤◌, length, IfSome, Some, option_copied};
 ghost use Rattle.std.specs.List.{AllByRecursion};
 ghost use Rattle.std.specs.Option.{option_map, option_map_or};
 ghost use Rattle.proto_model.specs.Guards as guards;
 ghost use Rattle.proto_model.specs.Guards.{bare_body};
 ghost use Rattle.proto_model.specs.Pairs.{reply_of};
-ghost use Rattle.proto_model.specs.Proper.{AreProperKinds, IsProperCarry, is_output_kind};
+ghost use Rattle.proto_model.specs.Proper.{AreProperKinds, IsProperCarry};
 ghost use Rattle.proto_model.specs.RendezvousNext as next;
-ghost use Rattle.proto_model.specs.Values.{is_open};
 ghost use Rattle.proto_model.specs.declared.numbered.Rule.{Rule as ARule};
 ghost use Rattle.controller_table.specs.Sound.{IsSound, protocol_of};
 ghost use Rattle.controller_table.specs.Sound as sound;
@@ -19,7 +18,7 @@ ghost use Rattle.async_machine.specs.Keys as keys;
 ghost use Rattle.async_machine.specs.Moves.{going};
 
 use controller_table::{Does, GuardId, Place, Row, Table, Trigger};
-use proto_model::{Body, MessageInfo, Rule, RuleKind, Value, Vars, guard_open, send_value};
+use proto_model::{Body, MessageInfo, Rule, RuleKind, Value, Vars, given as given_among, guard_at};
 
 /// The body of the home, whose guards don't say where they go.
 pub(crate) fn home_body(table: &Table) -> &Body
@@ -43,24 +42,6 @@ pub(crate) fn remote_body(table: &Table) -> &Body
     &remote.body
 }
 
-/// The guards of the state, in file order.
-pub(crate) fn guards_of(body: &Body, state: u8) -> &[Rule]
-    ensures { result.now ≡ guards.guards_of body.now state }
-{
-    match body.states.as_slice().get(state as usize) {
-        Some(info) => info.rules.as_slice(),
-        None => &[],
-    }
-}
-
-// The guard with this number in the state.
-fn guard_at(body: &Body, state: u8, number: usize) -> Option<&Rule>
-    ensures { option_copied result ≡ guards.guard_at body.now state number }
-{
-    let info = body.states.as_slice().get(state as usize)?;
-    info.rules.as_slice().get(number)
-}
-
 // The reply of the message among all replies.
 fn reply_among(replies: &[Option<u8>], message: u8) -> Option<u8>
     ensures { result ≡ reply_at replies.now message }
@@ -72,7 +53,7 @@ fn reply_among(replies: &[Option<u8>], message: u8) -> Option<u8>
 }
 
 /// The message that is the reply to this one; none where it is answered by an ack.
-pub(crate) fn reply(table: &Table, message: u8) -> Option<u8>
+pub(crate) fn reply_of(table: &Table, message: u8) -> Option<u8>
     ensures { result ≡ reply_of (protocol_of table.now) table.now.mode message }
 {
     reply_among(table.replies(), message)
@@ -193,7 +174,7 @@ pub fn remote_guard(table: &Table, state: u8, number: usize) -> Option<(&Rule, u
 pub fn given(table: &Table, rule: &Rule, vars: &Vars) -> Option<(u8, Value)>
     ensures { result ≡ next.given table.now.messages vars.now rule.now.kind }
 {
-    given_of(proper_messages(table), rule, vars)
+    given_among(proper_messages(table), rule, vars)
 }
 
 // The messages of the table.
@@ -202,39 +183,4 @@ fn proper_messages(table: &Table) -> &[MessageInfo]
     ensures carries { AllByRecursion (λ m. IsProperCarry m.carries) result.now }
 {
     table.messages()
-}
-
-fn given_of(messages: &[MessageInfo], rule: &Rule, vars: &Vars) -> Option<(u8, Value)>
-    requires { AllByRecursion (λ m. IsProperCarry m.carries) messages.now }
-    ensures { result ≡ next.given messages.now vars.now rule.now.kind }
-{
-    let RuleKind::Output(_, place, _) = rule.kind else {
-        return None;
-    };
-    let message = messages.get(place as usize)?;
-    Some((place, send_value(rule, vars, message.carries)))
-}
-
-/// Whether the guard is a local step that is open.
-pub(crate) fn is_open_tau(rule: &Rule, vars: &Vars) -> bool
-    ensures { result ≡ (next.is_tau rule.now.kind && is_open vars.now rule.now) }
-{
-    matches!(rule.kind, RuleKind::Tau) && guard_open(rule, vars)
-}
-
-/// Whether the guard is an open input of the message at this place.
-pub(crate) fn accepts(rule: &Rule, vars: &Vars, message: u8) -> bool
-    ensures { result ≡ next.accepts vars.now rule.now message }
-{
-    match rule.kind {
-        RuleKind::Input(_, place, _) => place == message && guard_open(rule, vars),
-        RuleKind::Tau | RuleKind::Output(_, _, _) => false,
-    }
-}
-
-/// Whether the guard is an output.
-pub(crate) fn is_output(rule: &Rule) -> bool
-    ensures { result ≡ is_output_kind rule.now.kind }
-{
-    matches!(rule.kind, RuleKind::Output(_, _, _))
 }

@@ -15,10 +15,10 @@ ghost use Rattle.async_shape.specs.Next as next;
 ghost use Rattle.async_shape.specs.Requests as requests;
 ghost use Rattle.async_shape.specs.Site.{site, arrival_link};
 ghost use Rattle.async_machine.specs.Arriving.{IsLinked, arriving_on};
-ghost use Rattle.async_machine.specs.Standing.{setting, config, setting_of, standing_so};
+ghost use Rattle.async_machine.specs.Standing.{setting, config, setting_of, config_of};
 
 use crate::choosing::{answering_guard, completes, first_held, is_target_of, taking_guard};
-use crate::controls::{given, home_guard, is_open_tau};
+use crate::controls::{given, home_guard};
 use crate::home::{drops, may_request, owed_to};
 use crate::machine::Machine;
 use crate::remote::{remote_answer, remote_reply, remote_send, remote_tau};
@@ -26,7 +26,7 @@ use crate::sending::arriving;
 use async_shape::{HomePlace, HomeState, RemoteState, Step};
 use controller_table::Table;
 use ordered_links::{Links, Packet};
-use proto_model::{Value, guard_open};
+use proto_model::{Value, guard_open, is_open_tau};
 use slot_reserve::{Held, Slots};
 
 // ---- the home
@@ -136,7 +136,7 @@ fn may(
     requires { IsLinked (length remotes.now) step }
     ensures { (links : List LinkPair) → arriving_on links step ≡ arrived
         → result ≡ is_some (next.outcome_of (setting_of table.now slots.now.size)
-        (standing_so home.now slots.now.held remotes.now links) (arrival_link (site step)) step) }
+        (config_of home.now slots.now.held remotes.now links) (arrival_link (site step)) step) }
 {
     let n = remotes.len() as u8;
     match step {

@@ -21,13 +21,13 @@ use crate::choosing::{
     completes, displaces, first_held, is_target_of, is_waiting, may_drop, some_completes,
     taking_guard,
 };
-use crate::controls::{given, guards_of, home_body, home_guard, is_open_tau, reply};
+use crate::controls::{given, home_body, home_guard, reply_of};
 use crate::parts::{home_after, home_after_ack, home_after_reply};
 use crate::sending::Sends;
 use async_shape::{HomePlace, HomeState, Waiting};
 use controller_table::{GuardId, Table};
 use ordered_links::Packet;
-use proto_model::{Part, Rule, Value, guard_open};
+use proto_model::{Part, Rule, Value, guard_open, guards_of, is_open_tau};
 use slot_reserve::{Admitted, Held, Slots};
 
 // The home stands idle where the part stands.
@@ -112,7 +112,7 @@ pub(crate) fn home_take(
     let part = home_after(table, &home.vars, guard, j, request.value);
     stand(home, part);
     slots.take(j);
-    Some(answer(home, j, reply(table, request.message)))
+    Some(answer(home, j, reply_of(table, request.message)))
 }
 
 // The home pays the reply that it owes to j by the guard, where this message is that reply.

@@ -12,6 +12,7 @@
 //! - `sending`: what a step does to the links.
 //! - `start`: where the processes stand at the start.
 //! - `machine`: the machine; `stepped`: what becomes of a step.
+//! - `inner`: moves of the links by themselves.
 //! - `enabled`: which steps are enabled, and the guards by which requests are taken and answered.
 //! - `texts`: the text of a step.
 #![tactic(auto)]
@@ -20,6 +21,7 @@ mod choosing;
 mod controls;
 mod enabled;
 mod home;
+mod inner;
 mod machine;
 mod moves;
 mod parts;

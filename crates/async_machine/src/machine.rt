@@ -4,7 +4,7 @@ ghost use Rattle.std.specs.Prelude.{◌≡◌, ◌<◌, ◌≤◌, length, repli
 ghost use Rattle.std.specs.Option.{option_map};
 ghost use Rattle.ordered_links.specs.Lists.{no_packets};
 ghost use Rattle.controller_table.specs.Sound.{protocol_of};
-ghost use Rattle.async_shape.specs.Config as config_of;
+ghost use Rattle.async_shape.specs.Config as of_config;
 ghost use Rattle.async_shape.specs.Fired.{row_place};
 ghost use Rattle.async_shape.specs.Next.{next, is_in_range, put_of, take_of, displaced_sender};
 ghost use Rattle.async_shape.specs.Shape.{IsShaped};
@@ -44,7 +44,7 @@ pub struct Machine<'a, L: Links> {
 }
 
 impl<'a, L: Links> Model for Machine<'a, L> {
-    ghost use Rattle.async_machine.specs.Standing.{Standing, IsStanding, standing_so};
+    ghost use Rattle.async_machine.specs.Standing.{Standing, IsStanding, config_of};
 
     ghost Value = { Standing L };
 
@@ -58,7 +58,7 @@ impl<'a, L: Links> Model for Machine<'a, L> {
     } };
 
     ghost invariant = { λ m. IsStanding m.table.now m.slots.size
-        (standing_so m.home m.slots.held m.remotes (L.lists m.links)) };
+        (config_of m.home m.slots.held m.remotes (L.lists m.links)) };
 }
 
 impl<'a, L: Links> Machine<'a, L> {
@@ -73,7 +73,7 @@ impl<'a, L: Links> Machine<'a, L> {
         ensures parts { IfOk result (λ m. (m.table ≡ table.now) × (m.slots ≡ k) × (m.links ≡
             links)) }
         ensures start { IfOk result (λ m. config L.lists m
-            ≡ config_of.start (protocol_of table.now) (length (L.lists links))) }
+            ≡ of_config.start (protocol_of table.now) (length (L.lists links))) }
     {
         let n = links.count();
         Ok(Machine {
@@ -241,7 +241,7 @@ impl<'a, L: Links> Machine<'a, L> {
 
     /// The message that the home owes to remote j; none where it owes none, and past the last one.
     pub fn owed(&self, j: u8) -> Option<u8>
-        ensures { result ≡ config_of.owed_to self.now.home j }
+        ensures { result ≡ of_config.owed_to self.now.home j }
     {
         crate::home::owed_to(&self.home, j)
     }

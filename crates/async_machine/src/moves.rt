@@ -8,7 +8,7 @@ ghost use Rattle.async_shape.specs.Requests.{is_waiting};
 ghost use Rattle.async_shape.specs.Site.{site, arrival_link};
 ghost use Rattle.async_machine.specs.Arriving.{IsLinked, arriving_on};
 ghost use Rattle.async_machine.specs.Moves.{RemoteMoves, StepMoves, remote_did, put_said, put_up};
-ghost use Rattle.async_machine.specs.Standing.{setting_of, standing_so};
+ghost use Rattle.async_machine.specs.Standing.{setting_of, config_of};
 
 use crate::home::{home_drop, home_send, home_take, home_tau, up};
 use crate::remote::{Did, down, remote_answer, remote_reply, remote_send, remote_tau};
@@ -63,10 +63,10 @@ pub(crate) fn moves(
     requires debts { length home.old.owed ≡ length remotes.old }
     requires room { IsTrue (is_waiting home.old.place) → length slots.old.held < slots.old.size }
     ensures value { (links : List LinkPair) → arriving_on links step ≡ arrived
-        → StepMoves result (standing_so home.old slots.old.held remotes.old links)
+        → StepMoves result (config_of home.old slots.old.held remotes.old links)
         home.new slots.new.held remotes.new
         (outcome_of (setting_of table.now slots.old.size)
-        (standing_so home.old slots.old.held remotes.old links) (arrival_link (site step)) step) }
+        (config_of home.old slots.old.held remotes.old links) (arrival_link (site step)) step) }
     ensures size { slots.new.size ≡ slots.old.size }
 {
     let n = remotes.as_slice().len() as u8;

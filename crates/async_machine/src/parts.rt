@@ -8,9 +8,9 @@ ghost use Rattle.async_shape.specs.Guards as spec;
 ghost use Rattle.std.specs.Option.{option_map};
 ghost use Rattle.async_machine.specs.Moves.{going};
 
-use crate::controls::{guards_of, home_body, home_guard, remote_body, remote_guard};
+use crate::controls::{home_body, home_guard, remote_body, remote_guard};
 use controller_table::{GuardId, Table};
-use proto_model::{Body, Part, Rule, Value, Vars, complete};
+use proto_model::{Body, Part, Rule, Value, Vars, complete, guards_of};
 
 // The process after it has completed the guard, which goes to this state.
 fn after_guard(body: &Body, vars: &Vars, guard: (&Rule, u8), partner: u8, value: Value) -> Part

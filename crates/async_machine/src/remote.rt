@@ -11,12 +11,12 @@ ghost use Rattle.async_machine.specs.Moves.{remote_did, going};
 ghost use Rattle.async_machine.specs.Standing.{setting_of};
 
 use crate::choosing::{active_guard, answering_guard};
-use crate::controls::{given, is_open_tau, remote_guard, reply};
+use crate::controls::{given, remote_guard, reply_of};
 use crate::parts::{remote_after, remote_after_ack, remote_after_reply};
 use async_shape::{RemoteState, Request};
 use controller_table::{GuardId, Place, Table};
 use ordered_links::Packet;
-use proto_model::{Part, Value};
+use proto_model::{Part, Value, is_open_tau};
 
 /// How a remote stands after a step, and the packet that it puts on its up link.
 pub(crate) type Did = (RemoteState, Option<Packet>);
@@ -109,7 +109,7 @@ fn answered_by(table: &Table, remote: &RemoteState, request: Request) -> Did
         return (emptied, Some(Packet::Nack));
     };
     let part = remote_after(table, &remote.vars, guard, request.value);
-    answered(part, reply(table, request.message))
+    answered(part, reply_of(table, request.message))
 }
 
 /// The remote answers the request in its slot.

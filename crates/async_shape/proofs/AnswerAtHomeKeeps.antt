@@ -26,7 +26,7 @@ use Rattle.async_shape.specs.View.{View, awaited_at, held_request, view_at}
 use Rattle.async_shape.specs.Phase.{Resting, RequestGoes, RequestIsHeld, IsInPhase, IsAnswerTo}
 use Rattle.async_shape.specs.Phase.{Case}
 use Rattle.async_shape.specs.Shape.{AreHeld, IsWaitingHome, IsHomePlace, IsWhole}
-use Rattle.async_shape.specs.Bounded.{is_request}
+use Rattle.ordered_links.specs.Packets.{is_request}
 use Rattle.async_shape.specs.declared.config.HomePlace.{HomePlace}
 use Rattle.async_shape.specs.declared.config.HomePlace.TheVariants.{Waits}
 use Rattle.async_shape.specs.declared.config.Waiting.{Waiting}

@@ -28,7 +28,7 @@ use Rattle.async_shape.specs.Phase.{RequestIsHeld, AnswerComes, ReplyIsOwed, as_
 use Rattle.async_shape.specs.Phase.{is_idle_place, waits_at, IsIdle, IsInPhase, IsActiveGuard}
 use Rattle.async_shape.specs.Phase.{IsRemotePlace, IsTypedMessage, IsTypedSlot, IsTypedPacket, Case}
 use Rattle.async_shape.specs.Shape.{IsShaped}
-use Rattle.async_shape.specs.Bounded.{is_request}
+use Rattle.ordered_links.specs.Packets.{is_request}
 use Rattle.async_shape.specs.declared.config.RemoteState.{RemoteState}
 use Rattle.async_shape.specs.declared.config.Request.{Request}
 use Rattle.async_shape.specs.declared.step.Step.TheVariants as step

@@ -22,7 +22,8 @@ use Rattle.async_shape.specs.Requests.{is_waiting}
 use Rattle.async_shape.specs.View.{View, view_at}
 use Rattle.async_shape.specs.Phase.{is_idle_place, Case}
 use Rattle.async_shape.specs.Shape.{IsHomePlace, IsWhole, IsShaped}
-use Rattle.async_shape.specs.Bounded.{is_request, goes_on, home_expects, remote_expects}
+use Rattle.ordered_links.specs.Packets.{is_request}
+use Rattle.async_shape.specs.Bounded.{goes_on, home_expects, remote_expects}
 use Rattle.async_shape.specs.Bounded.{AreBoundedLinks, IsBounded}
 use Rattle.async_shape.specs.declared.config.HomeState.{HomeState}
 use Rattle.async_shape.specs.declared.config.HomePlace.{HomePlace}

@@ -19,7 +19,7 @@ use Rattle.async_shape.specs.Phase.{ReplyIsDue, RequestGoes, RequestsCross, Requ
 use Rattle.async_shape.specs.Phase.{AnswerThenRequestGo, RequestIsHeld, AnswerComes, ReplyIsOwed}
 use Rattle.async_shape.specs.Phase.{as_packet, packets_of, down_list, Has, signs_of, Fits}
 use Rattle.async_shape.specs.Phase.{IsInPhase, is_idle_place, is_answer, waits_at, due_at, IsIdle}
-use Rattle.async_shape.specs.Bounded.{is_request}
+use Rattle.ordered_links.specs.Packets.{is_request}
 use Rattle.async_shape.specs.declared.config.Request.{Request}
 
 -- the view is in this phase

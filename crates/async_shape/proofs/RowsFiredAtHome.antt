@@ -37,7 +37,7 @@ use Rattle.async_shape.specs.Phase.{IsAnswerTo, Case}
 use Rattle.async_shape.specs.Shape.{IsWaitingHome, IsHomePlace, IsWhole, IsShaped}
 use Rattle.async_shape.specs.Fired.{Firing, row_place, home_fires, home_trigger, answer_value}
 use Rattle.async_shape.specs.Fired.{up_fires, vars_after}
-use Rattle.async_shape.specs.Bounded.{is_request}
+use Rattle.ordered_links.specs.Packets.{is_request}
 use Rattle.async_shape.specs.declared.config.HomeState.{HomeState}
 use Rattle.async_shape.specs.declared.config.HomePlace.{HomePlace}
 use Rattle.async_shape.specs.declared.config.HomePlace.TheVariants.{Idle, Waits}

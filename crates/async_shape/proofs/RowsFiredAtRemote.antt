@@ -32,7 +32,7 @@ use Rattle.async_shape.specs.Phase.{waits_at, is_answer, Case}
 use Rattle.async_shape.specs.Shape.{IsShaped}
 use Rattle.async_shape.specs.Fired.{Firing, remote_situation, remote_fires, remote_trigger}
 use Rattle.async_shape.specs.Fired.{answer_value, down_fires, fired}
-use Rattle.async_shape.specs.Bounded.{is_request}
+use Rattle.ordered_links.specs.Packets.{is_request}
 use Rattle.async_shape.specs.declared.config.RemoteState.{RemoteState}
 use Rattle.async_shape.specs.declared.config.Request.{Request}
 use Rattle.async_shape.specs.declared.step.Step.TheVariants as step

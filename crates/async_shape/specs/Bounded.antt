@@ -9,6 +9,7 @@ use Rattle.controller_table.specs.declared.rows.Place.{Place}
 use Rattle.controller_table.specs.declared.rows.Place.TheVariants.{Comm, Trans, Due}
 use Rattle.ordered_links.specs.Link.{Up, Down}
 use Rattle.ordered_links.specs.Lists.{packets_on}
+use Rattle.ordered_links.specs.Packets.{is_request}
 use Rattle.ordered_links.specs.declared.packet.Packet.{Packet}
 use Rattle.ordered_links.specs.declared.packet.Packet.TheVariants as packet
 use Rattle.async_shape.specs.Setting.{Setting}
@@ -21,13 +22,6 @@ use Rattle.async_shape.specs.declared.config.HomePlace.{HomePlace}
 use Rattle.async_shape.specs.declared.config.HomePlace.TheVariants.{Idle, Waits}
 use Rattle.async_shape.specs.declared.config.HomeState.{HomeState}
 use Rattle.async_shape.specs.declared.config.RemoteState.{RemoteState}
-
--- the packet is a request
-abbrev pub is_request : Packet → Bool
-is_request (packet.Request m v) = true
-is_request packet.Ack = false
-is_request packet.Nack = false
-is_request (packet.Reply p v) = false
 
 -- A process that waits by this guard goes on where this packet arrives: a request and a nack need
 -- no guard, and an ack and a reply find the guards that they complete.

@@ -45,8 +45,8 @@ pub fn every_run_admits_what_is_useful()
 {}
 
 /// Each step of each such run is explained by one row of the two controllers of the protocol, or
-/// fires none and leaves each process where it is. So is each step from a configuration that has the
-/// shape.
+/// fires none and leaves each process where it is. So is each step from a configuration that has
+/// the shape.
 pub fn every_step_is_by_a_row()
     ensures shaped { (setting : Setting) (c d : Config) (s : Step) → IsProper setting.protocol
         → IsShaped setting c → next setting c s ≡ Some d

@@ -66,12 +66,14 @@ module _ (name : Text) (mode : Mode) (messages : List MessageInfo) (replies : Li
   pub home-differ : NoTwoShareKey home.rows
   home-differ =
       subst NoTwoShareKey (sym makes.same_home)
-      (apart-places (home_rows whole mode) (home_rows-apart messages (replies_of whole mode) home.body))
+      (apart-places (home_rows whole mode)
+      (home_rows-apart messages (replies_of whole mode) home.body))
 
   pub remote-differ : NoTwoShareKey remote.rows
   remote-differ =
       subst NoTwoShareKey (sym makes.same_remote)
-      (apart-places (remote_rows whole mode) (remote_rows-apart messages (replies_of whole mode) remote.body))
+      (apart-places (remote_rows whole mode)
+      (remote_rows-apart messages (replies_of whole mode) remote.body))
 
   -- ---- the table with controllers whose bodies say of no guard where it goes
 

@@ -153,7 +153,9 @@ module _ (messages : List MessageInfo) (replies : List (Option ℕ)) (body : Bod
   home_state-leads s i info rule there =
       let g : GuardId = guard_id s i in
       rw
-      (find_flat (home_guards s) (shows g) i (λ j other ne. home-other g s j other (inr (λ e. ne (sym e)))) 0 i info.rules rule (omega arith) there)
+      (find_flat (home_guards s) (shows g) i
+      (λ j other ne. home-other g s j other (inr (λ e. ne (sym e)))) 0 i info.rules rule
+      (omega arith) there)
       (home-leads g rule rule.kind)
 
   remote_state-leads : (s i : ℕ) (info : StateInfo) (rule : Rule)
@@ -165,7 +167,9 @@ module _ (messages : List MessageInfo) (replies : List (Option ℕ)) (body : Bod
       let guards : List Row = flat_from (remote_guards s) 0 info.rules in
       let none = last-none g (is_active info) s in
       rw (find-append (shows g) guards (last s info), none, option_or-none (find (shows g) guards))
-      (rw (find_flat (remote_guards s) (shows g) i (λ j other ne. remote-other g s j other (inr (λ e. ne (sym e)))) 0 i info.rules rule (omega arith) there)
+      (rw (find_flat (remote_guards s) (shows g) i
+      (λ j other ne. remote-other g s j other (inr (λ e. ne (sym e)))) 0 i info.rules rule
+      (omega arith) there)
       (remote-leads g rule rule.kind))
 
   -- ---- all rows
@@ -177,7 +181,8 @@ module _ (messages : List MessageInfo) (replies : List (Option ℕ)) (body : Bod
   home-next s i info rule state there =
       let g : GuardId = guard_id s i in
       rw
-      (find_flat (home_state_rows messages replies body) (shows g) s (λ t other ne. home_state-none g t other ne) 0 s body.states info (omega arith) state)
+      (find_flat (home_state_rows messages replies body) (shows g) s
+      (λ t other ne. home_state-none g t other ne) 0 s body.states info (omega arith) state)
       (home_state-leads s i info rule there)
 
   -- So do those of a remote.
@@ -187,5 +192,6 @@ module _ (messages : List MessageInfo) (replies : List (Option ℕ)) (body : Bod
   remote-next s i info rule state there =
       let g : GuardId = guard_id s i in
       rw
-      (find_flat (remote_state_rows messages replies body) (shows g) s (λ t other ne. remote_state-none g t other ne) 0 s body.states info (omega arith) state)
+      (find_flat (remote_state_rows messages replies body) (shows g) s
+      (λ t other ne. remote_state-none g t other ne) 0 s body.states info (omega arith) state)
       (remote_state-leads s i info rule there)

@@ -121,7 +121,8 @@ module _ (messages : List MessageInfo) (replies : List (Option ℕ)) (body : Bod
 
   home_output-apart : (g : GuardId) (rule : Rule) (m : ℕ) (o : Option ℕ) (b : Bool)
       → AllApart
-      (send_row g m ∷ answered_row body g rule o ∷ back_row g GotNack ∷ back_row g GotRequest ∷ pay_rows b g rule m)
+      (send_row g m ∷ answered_row body g rule o ∷ back_row g GotNack ∷ back_row g GotRequest
+      ∷ pay_rows b g rule m)
   home_output-apart g rule m None false = (
     (λ k. cc, (λ k. cc, (λ k. cc, tt))),
     (

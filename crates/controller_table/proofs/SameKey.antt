@@ -21,12 +21,14 @@ same_place-itself a = grind (arith, common_steps)
 same_trigger-itself : (a : Trigger) → trigger.ghosts.eq a a ≡ true
 same_trigger-itself a = grind (arith, common_steps)
 
-same_key-parts : (a b : Key) → ghosts.eq a b ≡ (place.ghosts.eq a.at b.at && trigger.ghosts.eq a.on b.on)
+same_key-parts : (a b : Key)
+    → ghosts.eq a b ≡ (place.ghosts.eq a.at b.at && trigger.ghosts.eq a.on b.on)
 same_key-parts a b = search rules
 
 pub same_key-same : (a b : Key) → ghosts.eq a b ≡ true → (a.at ≡ b.at) × (a.on ≡ b.on)
 same_key-same a b e =
-    let both = and_parts (place.ghosts.eq a.at b.at) (trigger.ghosts.eq a.on b.on) (sym (same_key-parts a b) ∙ e) in
+    let both = and_parts (place.ghosts.eq a.at b.at) (trigger.ghosts.eq a.on b.on)
+    (sym (same_key-parts a b) ∙ e) in
     (same_place-same a.at b.at both.0, same_trigger-same a.on b.on both.1)
 
 pub same_key-itself : (a b : Key) → a.at ≡ b.at → a.on ≡ b.on → ghosts.eq a b ≡ true

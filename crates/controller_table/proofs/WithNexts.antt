@@ -40,7 +40,8 @@ abbrev pub with_rules : StateInfo → List Rule → StateInfo
 with_rules info rules = record { name = info.name; rules = rules }
 
 abbrev to_next : Rule → ℕ → Rule
-to_next rule next = record { kind = rule.kind; conds = rule.conds; assigns = rule.assigns; next = next }
+to_next rule next = record
+    { kind = rule.kind; conds = rule.conds; assigns = rule.assigns; next = next }
 
 abbrev rule_with : (GuardId → ℕ) → ℕ → ℕ → Rule → Rule
 rule_with next state guard rule = to_next rule (next (guard_id state guard))

@@ -20,12 +20,15 @@ pub record HasPartsOf (protocol copy : NumberedProtocol) : Type 0 where
 same_parts : (protocol copy : NumberedProtocol) → HasPartsOf protocol copy → protocol ≡ copy
 same_parts protocol copy has = rw (← has.name, ← has.messages, ← has.home, ← has.remote) refl
 
-pub MakesTable-parts : (protocol : NumberedProtocol) (mode : Mode) (name : Text) (messages : List MessageInfo)
+pub MakesTable-parts : (protocol : NumberedProtocol) (mode : Mode) (name : Text)
+    (messages : List MessageInfo)
     (replies : List (Option ℕ)) (home remote : Controller)
     → IsProper protocol → HasPartsOf protocol (protocol_with name messages home remote)
-    → replies ≡ replies_of protocol mode → home.rows ≡ home_rows protocol mode → remote.rows ≡ remote_rows protocol mode
+    → replies ≡ replies_of protocol mode → home.rows ≡ home_rows protocol mode
+    → remote.rows ≡ remote_rows protocol mode
     → MakesTable name mode messages replies home remote
-MakesTable-parts protocol mode name messages replies home remote proper has same_replies same_home same_remote =
+MakesTable-parts protocol mode name messages replies home remote proper has same_replies same_home
+    same_remote =
     let same = same_parts protocol (protocol_with name messages home remote) has in
     record {
       proper = subst IsProper same proper;
@@ -35,10 +38,13 @@ MakesTable-parts protocol mode name messages replies home remote proper has same
     }
 
 -- and the table that they make is that of the protocol
-pub table_of-parts : (protocol : NumberedProtocol) (mode : Mode) (name : Text) (messages : List MessageInfo)
+pub table_of-parts : (protocol : NumberedProtocol) (mode : Mode) (name : Text)
+    (messages : List MessageInfo)
     (replies : List (Option ℕ)) (home remote : Controller)
     → HasPartsOf protocol (protocol_with name messages home remote)
-    → replies ≡ replies_of protocol mode → home.rows ≡ home_rows protocol mode → remote.rows ≡ remote_rows protocol mode
+    → replies ≡ replies_of protocol mode → home.rows ≡ home_rows protocol mode
+    → remote.rows ≡ remote_rows protocol mode
     → table_of name mode messages replies home remote ≡ table_in protocol mode
-table_of-parts protocol mode name messages replies home remote has same_replies same_home same_remote =
+table_of-parts protocol mode name messages replies home remote has same_replies same_home
+    same_remote =
     rw (has.name, has.messages, has.home, has.remote, same_replies, same_home, same_remote) refl

@@ -1,2 +1,3 @@
 pub mod Link
 pub mod Lists
+pub mod Packets

@@ -7,13 +7,16 @@
 //! - `packet`: what travels.
 //! - `links`: the trait, what every implementation of links does to the lists of packets. Each
 //!   implementation may say more of itself by two relations of its own, its effects.
+//! - `moving`: the trait of links that have moves of their own, as over a network.
 //! - `rings`: links that are rings of fixed size.
 #![tactic(auto)]
 
 mod links;
+mod moving;
 mod packet;
 mod rings;
 
 pub use links::Links;
+pub use moving::MovingLinks;
 pub use packet::Packet;
 pub use rings::RingLinks;

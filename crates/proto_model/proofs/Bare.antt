@@ -116,7 +116,8 @@ states_bare-bare : (states : List StateInfo)
 states_bare-bare [] = refl
 states_bare-bare (state ∷ states) =
     ap
-    (λ (rules : List Rule). record { name = state.name; rules = rules } ∷ map bare_state (map bare_state states))
+    (λ (rules : List Rule). record { name = state.name; rules = rules } ∷ map bare_state
+    (map bare_state states))
     (rules_bare-bare state.rules)
     ∙ ap (λ (rest : List StateInfo). bare_state state ∷ rest) (states_bare-bare states)
 

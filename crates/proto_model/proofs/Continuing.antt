@@ -21,19 +21,26 @@ whole text result old new continues = continues old [] (sym (append-nil old))
 pub Continues-stopped : {E : Type 0} (text : Text) (so_far : Result (Unit {0}) E) (old : Text)
     → is_err so_far ≡ true → Continues text so_far old so_far old
 Continues-stopped text (Ok t) old e = absurd (cc)
-Continues-stopped text (Err failure) old e = λ start before stands.
-    (stands.0, stands.1 ++ text, ap (λ (t : Text). t ++ text) stands.2 ∙ append_assoc stands.0 stands.1 text, stands.3)
+Continues-stopped text (Err failure) old e = λ start before stands. (
+  stands.0,
+  stands.1 ++ text,
+  ap (λ (t : Text). t ++ text) stands.2
+      ∙ append_assoc stands.0 stands.1 text,
+  stands.3,
+)
 
 -- nothing, and one text after another
 pub Continues-none : {E : Type 0} (so_far : Result (Unit {0}) E) (old : Text)
     → Continues [] so_far old so_far old
 Continues-none so_far old =
-    λ start before stands. subst (λ (text : Text). Appends text so_far start old) (sym (append-nil before)) stands
+    λ start before stands. subst (λ (text : Text). Appends text so_far start old)
+    (sym (append-nil before)) stands
 
 pub Continues-append : {E : Type 0} (x y : Text) (r s t : Result (Unit {0}) E) (a b c : Text)
     → Continues x r a s b → Continues y s b t c → Continues (x ++ y) r a t c
 Continues-append x y r s t a b c first second = λ start before stands.
-    subst (λ (text : Text). Appends text t start c) (append_assoc before x y) (second start (before ++ x) (first start before stands))
+    subst (λ (text : Text). Appends text t start c) (append_assoc before x y)
+    (second start (before ++ x) (first start before stands))
 
 -- the numbers of a list, joined by `,`
 abbrev pub joined : List ℕ → Text
@@ -75,11 +82,13 @@ pub members_below-without : (set n : ℕ) → has_number set n ≡ false
     → members_below set (n + 1) ≡ members_below set n
 members_below-without set n has =
     members_below-more set n
-    ∙ ap (λ (ns : List ℕ). members_below set n ++ ns) (cond-false (has_number set n) (n ∷ []) [] has)
+    ∙ ap (λ (ns : List ℕ). members_below set n ++ ns)
+    (cond-false (has_number set n) (n ∷ []) [] has)
     ∙ append-nil (members_below set n)
 
 pub joined-with : (set n : ℕ) → has_number set n ≡ true
-    → joined (members_below set (n + 1)) ≡ joined (members_below set n) ++ member_text (is_nil (members_below set n)) n
+    → joined (members_below set (n + 1)) ≡ joined (members_below set n) ++ member_text
+    (is_nil (members_below set n)) n
 joined-with set n has =
     ap joined (members_below-with set n has) ∙ joined-push (members_below set n) n
 
@@ -91,7 +100,8 @@ is_nil-with set n has =
 
 pub vars_text-more : (infos : List VarInfo) (vars : List Value) (n : ℕ) (info : VarInfo) (v : Value)
     → slice_get infos n ≡ Some info → slice_get vars n ≡ Some v
-    → vars_text (take (suc n) infos) (take (suc n) vars) ≡ vars_text (take n infos) (take n vars) ++ var_text info v
+    → vars_text (take (suc n) infos) (take (suc n) vars) ≡ vars_text (take n infos) (take n vars)
+    ++ var_text info v
 vars_text-more [] vars n info v e f = absurd (cc)
 vars_text-more (i ∷ is) [] n info v e f = absurd (cc)
 vars_text-more (i ∷ is) (w ∷ ws) zero info v e f =

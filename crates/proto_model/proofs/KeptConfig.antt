@@ -64,9 +64,11 @@ IsProperRule-at s messages body part g rule proper at =
     (slice_get body.states part.state) rule at in
     let proper_state =
     AllByRecursion-at
-    (IsProperState s messages body.vars (length body.states)) body.states part.state state.0 proper.states state.1 in
+    (IsProperState s messages body.vars (length body.states)) body.states part.state state.0
+    proper.states state.1 in
     AllByRecursion-at
-    (IsProperRule s messages body.vars (length body.states)) state.0.rules g rule proper_state.rules state.2
+    (IsProperRule s messages body.vars (length body.states)) state.0.rules g rule proper_state.rules
+    state.2
 
 -- a rule of a process that stands in a proper body is read under its condition
 pub IsTyped-at : (s : Side) (messages : List MessageInfo) (body : Body) (part : Part) (g : ℕ)
@@ -132,11 +134,17 @@ IsReceived-sent : (messages : List MessageInfo) (body : Body) (part : Part) (out
     → IsReceived messages input.kind (sends part.vars output.kind message.carries)
 IsReceived-sent messages body part output input message typed meets =
     let offers : Offers messages output message.carries =
-    record
-    { place = meets.place; message = message; out = meets.sent; there = meets.there; same = refl } in
+    record {
+      place = meets.place;
+      message = message;
+      out = meets.sent;
+      there = meets.there;
+      same = refl;
+    } in
     let v = sends part.vars output.kind message.carries in
     IsReceived-in messages input.kind meets.place v meets.received
-    (IsCarriedBy-there messages meets.place message v meets.there (IsCarried-send messages body.vars part.vars output message.carries typed offers))
+    (IsCarriedBy-there messages meets.place message v meets.there
+    (IsCarried-send messages body.vars part.vars output message.carries typed offers))
 
 -- the configuration after a move
 
@@ -144,12 +152,14 @@ IsReceived-sent messages body part output input message typed meets =
 IsConfigOf-moved : (protocol : NumberedProtocol) (old new : RvConfig) (j : ℕ) (home remote : Part)
     → IsConfigOf protocol old → IsPartOf protocol.home home → IsPartOf protocol.remote remote
     → new.home ≡ home → new.remotes ≡ set old.remotes j remote → IsConfigOf protocol new
-IsConfigOf-moved protocol old new j home remote config home_stands remote_stands home_is remotes_is =
+IsConfigOf-moved protocol old new j home remote config home_stands remote_stands home_is remotes_is
+    =
     let count = ap length remotes_is ∙ length-set old.remotes j remote in
     record {
       home = subst (IsPartOf protocol.home) (sym home_is) home_stands;
       remotes = subst (AllByRecursion (IsPartOf protocol.remote)) (sym remotes_is)
-          (AllByRecursion-set (IsPartOf protocol.remote) old.remotes j remote config.remotes remote_stands);
+          (AllByRecursion-set (IsPartOf protocol.remote) old.remotes j remote config.remotes
+          remote_stands);
       some_remotes = omega (arith, config.some_remotes);
       few_remotes = omega (arith, config.few_remotes);
     }
@@ -166,7 +176,8 @@ pub IsConfigOf-step : (protocol : NumberedProtocol) (old : RvConfig) (what : Eve
     → IsConfigOf protocol new
 IsConfigOf-step protocol old (event.TauHome g) new proper config step =
     let stands =
-    IsPartOf-after_guard side.Home protocol.messages protocol.home old.home g step.rule 0 value.Unit proper.messages proper.home config.home step.takes.there
+    IsPartOf-after_guard side.Home protocol.messages protocol.home old.home g step.rule 0 value.Unit
+    proper.messages proper.home config.home step.takes.there
     (lit< tt) (IsReceived-tau protocol.messages step.rule.kind value.Unit step.takes.tau) in
     let count = ap length step.remotes in
     record {
@@ -180,43 +191,57 @@ IsConfigOf-step protocol old (event.TauRemote j g) new proper config step =
     AllByRecursion-at
     (IsPartOf protocol.remote) old.remotes j step.remote config.remotes step.there in
     let stands =
-    IsPartOf-after_guard side.Remote protocol.messages protocol.remote step.remote g step.rule 0 value.Unit proper.messages proper.remote remote step.takes.there
+    IsPartOf-after_guard side.Remote protocol.messages protocol.remote step.remote g step.rule 0
+    value.Unit proper.messages proper.remote remote step.takes.there
     (lit< tt) (IsReceived-tau protocol.messages step.rule.kind value.Unit step.takes.tau) in
     IsConfigOf-moved protocol old new j old.home
-    (after_guard protocol.remote step.remote.vars step.rule step.rule.next 0 value.Unit) config config.home stands step.home step.remotes
+    (after_guard protocol.remote step.remote.vars step.rule step.rule.next 0 value.Unit) config
+    config.home stands step.home step.remotes
 IsConfigOf-step protocol old (event.Up j h r) new proper config step =
     let remote =
     AllByRecursion-at
     (IsPartOf protocol.remote) old.remotes j step.remote config.remotes step.there in
     let v = sends step.remote.vars step.output.kind step.message.carries in
     let gives =
-    IsTyped-at side.Remote protocol.messages protocol.remote step.remote r step.output proper.messages proper.remote remote step.gives in
+    IsTyped-at side.Remote protocol.messages protocol.remote step.remote r step.output
+    proper.messages proper.remote remote step.gives in
     let home_stands =
-    IsPartOf-after_guard side.Home protocol.messages protocol.home old.home h step.input j v proper.messages proper.home config.home step.takes
+    IsPartOf-after_guard side.Home protocol.messages protocol.home old.home h step.input j v
+    proper.messages proper.home config.home step.takes
     (remote_below protocol old j step.remote config step.there)
-    (IsReceived-sent protocol.messages protocol.remote step.remote step.output step.input step.message gives step.meets) in
+    (IsReceived-sent protocol.messages protocol.remote step.remote step.output step.input
+    step.message gives step.meets) in
     let remote_stands =
-    IsPartOf-after_guard side.Remote protocol.messages protocol.remote step.remote r step.output 0 value.Unit proper.messages proper.remote remote step.gives
+    IsPartOf-after_guard side.Remote protocol.messages protocol.remote step.remote r step.output 0
+    value.Unit proper.messages proper.remote remote step.gives
     (lit< tt)
-    (IsReceived-out protocol.messages step.output.kind step.meets.place value.Unit step.meets.sent) in
+    (IsReceived-out protocol.messages step.output.kind step.meets.place value.Unit
+    step.meets.sent) in
     IsConfigOf-moved protocol old new j
     (after_guard protocol.home old.home.vars step.input step.input.next j v)
-    (after_guard protocol.remote step.remote.vars step.output step.output.next 0 value.Unit) config home_stands remote_stands step.home step.remotes
+    (after_guard protocol.remote step.remote.vars step.output step.output.next 0 value.Unit) config
+    home_stands remote_stands step.home step.remotes
 IsConfigOf-step protocol old (event.Down j h r) new proper config step =
     let remote =
     AllByRecursion-at
     (IsPartOf protocol.remote) old.remotes j step.remote config.remotes step.there in
     let v = sends old.home.vars step.output.kind step.message.carries in
     let gives =
-    IsTyped-at side.Home protocol.messages protocol.home old.home h step.output proper.messages proper.home config.home step.gives in
+    IsTyped-at side.Home protocol.messages protocol.home old.home h step.output proper.messages
+    proper.home config.home step.gives in
     let home_stands =
-    IsPartOf-after_guard side.Home protocol.messages protocol.home old.home h step.output j value.Unit proper.messages proper.home config.home step.gives
+    IsPartOf-after_guard side.Home protocol.messages protocol.home old.home h step.output j
+    value.Unit proper.messages proper.home config.home step.gives
     (remote_below protocol old j step.remote config step.there)
-    (IsReceived-out protocol.messages step.output.kind step.meets.place value.Unit step.meets.sent) in
+    (IsReceived-out protocol.messages step.output.kind step.meets.place value.Unit
+    step.meets.sent) in
     let remote_stands =
-    IsPartOf-after_guard side.Remote protocol.messages protocol.remote step.remote r step.input 0 v proper.messages proper.remote remote step.takes
+    IsPartOf-after_guard side.Remote protocol.messages protocol.remote step.remote r step.input 0 v
+    proper.messages proper.remote remote step.takes
     (lit< tt)
-    (IsReceived-sent protocol.messages protocol.home old.home step.output step.input step.message gives step.meets) in
+    (IsReceived-sent protocol.messages protocol.home old.home step.output step.input step.message
+    gives step.meets) in
     IsConfigOf-moved protocol old new j
     (after_guard protocol.home old.home.vars step.output step.output.next j value.Unit)
-    (after_guard protocol.remote step.remote.vars step.input step.input.next 0 v) config home_stands remote_stands step.home step.remotes
+    (after_guard protocol.remote step.remote.vars step.input step.input.next 0 v) config home_stands
+    remote_stands step.home step.remotes

@@ -9,11 +9,13 @@ use Rattle.proto_model.specs.Marks.{Mark, LineEnd, laid, words, marks_of}
 
 -- the rest of a line, behind the token t
 laid-words_behind : (t : Text) (us : List Token) (rest : List Mark)
-    → laid (hugs_right t) (words us ++ LineEnd ∷ rest) ≡ spaced_from t (spellings us) ++ 10 ∷ laid true rest
+    → laid (hugs_right t) (words us ++ LineEnd ∷ rest) ≡ spaced_from t (spellings us) ++ 10
+    ∷ laid true rest
 unfolding laid
 laid-words_behind t [] rest = refl
 laid-words_behind t (u ∷ us) rest =
-    ap (λ (text : Text). (space_between t u.text ++ u.text) ++ text) (laid-words_behind u.text us rest)
+    ap (λ (text : Text). (space_between t u.text ++ u.text) ++ text)
+    (laid-words_behind u.text us rest)
     ∙ simp append_assoc
 
 laid-words : (ts : List Token) (rest : List Mark)
@@ -28,7 +30,9 @@ pub laid-marks_of : (ls : List Line) → laid true (marks_of ls) ≡ flat_map li
 unfolding laid
 laid-marks_of [] = refl
 laid-marks_of (l ∷ ls) =
-    ap (λ (marks : List Mark). replicate l.indent 32 ++ laid true marks) (append_assoc (words l.tokens) (LineEnd ∷ []) (marks_of ls))
+    ap (λ (marks : List Mark). replicate l.indent 32 ++ laid true marks)
+    (append_assoc (words l.tokens) (LineEnd ∷ []) (marks_of ls))
     ∙ ap (λ (text : Text). replicate l.indent 32 ++ text) (laid-words l.tokens (marks_of ls))
-    ∙ ap (λ (text : Text). replicate l.indent 32 ++ (spaced (spellings l.tokens) ++ 10 ∷ text)) (laid-marks_of ls)
+    ∙ ap (λ (text : Text). replicate l.indent 32 ++ (spaced (spellings l.tokens) ++ 10 ∷ text))
+    (laid-marks_of ls)
     ∙ simp append_assoc

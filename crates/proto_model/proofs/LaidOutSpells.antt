@@ -83,28 +83,43 @@ Follows-spaced : (t u rest : Text) (tokens : List Text) (right left : Bool) → 
     → hugs_left u ≡ left → Follows u rest tokens
     → Follows t ((if right || left then [] else 32 ∷ []) ++ (u ++ rest)) (u ∷ tokens)
 Follows-spaced t u rest tokens true left r h f =
-    record { apart = λ (begins : begins_word t ≡ true). let none = hugs_right_begins_no_word t r in absurd (cc); laid = Laid-token u rest tokens f }
+    record {
+      apart = λ (begins : begins_word t ≡ true). let none = hugs_right_begins_no_word t r in
+          absurd (cc);
+      laid = Laid-token u rest tokens f;
+    }
 Follows-spaced t u rest tokens false true r h f =
     record { apart = λ _. hugs_left_begins_no_word u rest h; laid = Laid-token u rest tokens f }
 Follows-spaced t u rest tokens false false r h f =
-    record { apart = λ _. space_is_no_word; laid = Laid-space 32 (u ++ rest) (u ∷ tokens) space_is_space (Laid-token u rest tokens f) }
+    record {
+      apart = λ _. space_is_no_word;
+      laid = Laid-space 32 (u ++ rest) (u ∷ tokens)
+          space_is_space (Laid-token u rest tokens f);
+    }
 
 -- the tokens of a line behind its first one, and the LF
 Follows-line : (t : Text) (us : List Text) (rest : Text) (tokens : List Text) → Laid rest tokens
     → Follows t (spaced_from t us ++ 10 ∷ rest) (us ++ tokens)
 Follows-line t [] rest tokens l =
-    record { apart = λ _. line_feed_is_no_word; laid = Laid-space 10 rest tokens line_feed_is_space l }
+    record {
+      apart = λ _. line_feed_is_no_word;
+      laid = Laid-space 10 rest tokens line_feed_is_space
+          l;
+    }
 Follows-line t (u ∷ us) rest tokens l =
-    let regroup : space_between t u ++ (u ++ (spaced_from u us ++ 10 ∷ rest)) ≡ (space_between t u ++ (u ++ spaced_from u us)) ++ 10 ∷ rest = simp append_assoc in
+    let regroup : space_between t u ++ (u ++ (spaced_from u us ++ 10 ∷ rest))
+    ≡ (space_between t u ++ (u ++ spaced_from u us)) ++ 10 ∷ rest = simp append_assoc in
     subst (λ (bytes : Text). Follows t bytes (u ∷ (us ++ tokens))) regroup
-    (Follows-spaced t u (spaced_from u us ++ 10 ∷ rest) (us ++ tokens) (hugs_right t) (hugs_left u) refl refl (Follows-line u us rest tokens l))
+    (Follows-spaced t u (spaced_from u us ++ 10 ∷ rest) (us ++ tokens) (hugs_right t) (hugs_left u)
+    refl refl (Follows-line u us rest tokens l))
 
 -- a line whose tokens have these spellings
 Laid-spaced : (ts : List Text) (rest : Text) (tokens : List Text) → Laid rest tokens
     → Laid (spaced ts ++ 10 ∷ rest) (ts ++ tokens)
 Laid-spaced [] rest tokens l = Laid-space 10 rest tokens line_feed_is_space l
 Laid-spaced (t ∷ ts) rest tokens l =
-    subst (λ (bytes : Text). Laid bytes (t ∷ (ts ++ tokens))) (sym (append_assoc t (spaced_from t ts) (10 ∷ rest)))
+    subst (λ (bytes : Text). Laid bytes (t ∷ (ts ++ tokens)))
+    (sym (append_assoc t (spaced_from t ts) (10 ∷ rest)))
     (Laid-token t (spaced_from t ts ++ 10 ∷ rest) (ts ++ tokens) (Follows-line t ts rest tokens l))
 
 pub spellings-append : (xs ys : List Token) → spellings (xs ++ ys) ≡ spellings xs ++ spellings ys
@@ -120,10 +135,12 @@ Laid-lines [] = ([], None, tt, tt, refl)
 Laid-lines (l ∷ ls) =
     let rest = flat_map line_text ls in
     let tokens = spellings (tokens_of_lines ls) in
-    let regroup : replicate l.indent 32 ++ (spaced (spellings l.tokens) ++ 10 ∷ rest) ≡ line_text l ++ rest = simp append_assoc in
+    let regroup : replicate l.indent 32 ++ (spaced (spellings l.tokens) ++ 10 ∷ rest) ≡ line_text l
+    ++ rest = simp append_assoc in
     rw (spellings-append l.tokens (tokens_of_lines ls))
     (subst (λ (bytes : Text). Laid bytes (spellings l.tokens ++ tokens)) regroup
-    (Laid-spaces l.indent (spaced (spellings l.tokens) ++ 10 ∷ rest) (spellings l.tokens ++ tokens) (Laid-spaced (spellings l.tokens) rest tokens (Laid-lines ls))))
+    (Laid-spaces l.indent (spaced (spellings l.tokens) ++ 10 ∷ rest) (spellings l.tokens ++ tokens)
+    (Laid-spaced (spellings l.tokens) rest tokens (Laid-lines ls))))
 
 -- the tokens of a protocol's lines are the protocol's
 tokens_of_lines-state : (s : State) → tokens_of_lines (state_lines s) ≡ state_tokens s
@@ -134,7 +151,8 @@ tokens_of_lines-states : (ss : List State)
 tokens_of_lines-states [] = refl
 tokens_of_lines-states (s ∷ ss) =
     flat_map-append (λ (l : Line). l.tokens) (state_lines s) (flat_map state_lines ss)
-    ∙ ap (λ (tokens : List Token). tokens ++ tokens_of_lines (flat_map state_lines ss)) (tokens_of_lines-state s)
+    ∙ ap (λ (tokens : List Token). tokens ++ tokens_of_lines (flat_map state_lines ss))
+    (tokens_of_lines-state s)
     ∙ ap (λ (tokens : List Token). state_tokens s ++ tokens) (tokens_of_lines-states ss)
 
 tokens_of_lines-body : (p : Process) → opening ∷ tokens_of_lines (body_lines p) ≡ process_tokens p
@@ -165,7 +183,8 @@ tokens_of_lines-protocol p =
     ++ item (codes "remote") ∷ ((opening ∷ tokens_of_lines (body_lines p.remote)) ++ claims))) in
     let behind_remote : List Token → List Token = λ remote.
     header ++ (flat_map message_tokens p.messages
-    ++ item (codes "home") ∷ (process_tokens p.home ++ item (codes "remote") ∷ (remote ++ claims))) in
+    ++ item (codes "home")
+    ∷ (process_tokens p.home ++ item (codes "remote") ∷ (remote ++ claims))) in
     ap (λ (tokens : List Token). header ++ tokens)
     (tokens_of_lines-bodies p.messages (body_lines p.home) (body_lines p.remote) p.claims)
     ∙ ap behind_home (tokens_of_lines-body p.home)
@@ -174,4 +193,9 @@ tokens_of_lines-protocol p =
 -- for every protocol that a file can say, its laid-out text spells it
 pub laid_out_spells : (p : Protocol) → IsSayable p → Spells (laid_out p) p
 laid_out_spells p sayable =
-    record { sayable = sayable; laid = subst (λ (tokens : List Token). Laid (laid_out p) (spellings tokens)) (tokens_of_lines-protocol p) (Laid-lines (lines_of p)) }
+    record {
+      sayable = sayable;
+      laid = subst
+          (λ (tokens : List Token). Laid (laid_out p) (spellings tokens)) (tokens_of_lines-protocol p)
+          (Laid-lines (lines_of p));
+    }

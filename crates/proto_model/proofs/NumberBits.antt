@@ -1,4 +1,5 @@
--- A set of remotes below n is a number below 2 ^ n, and has exactly the remotes that it was made of.
+-- A set of remotes below n is a number below 2 ^ n, and has exactly the remotes that it was made
+-- of.
 use Rattle.std.proofs.Common.{◌≡◌, ◌≢◌, ℕ, zero, suc, ◌+◌, ◌*◌, ◌%◌, ◌^◌, ◌<◌, ◌≤◌, max, Bool, true}
 use Rattle.std.proofs.Common.{false, ◌&&◌, nat_lt, cond, bit_and, bit_or, inl, inr, lit<, refl, sym}
 use Rattle.std.proofs.Common.{ap, ◌∙◌, arith, add-one}
@@ -18,12 +19,19 @@ has_number-above set n j small above = rw (bit_at_above set n j small above) ref
 -- a remote in a set below 2 ^ n is below n
 pub has_number-below : (set n j : ℕ) → set < 2 ^ n → has_number set j ≡ true → j < n
 has_number-below set n j small has =
-    elim (cases_lt j n) [ inl below ↦ below | inr above ↦ absurd (false≢true (sym (has_number-above set n j small above) ∙ has)) ]
+    elim (cases_lt j n) [
+      | inl below ↦ below
+      | inr above ↦ absurd
+          (false≢true (sym (has_number-above set n j small above) ∙ has))
+    ]
 
 -- the bit of a remote is part of a set that has it
 pub pow-le-set : (set j : ℕ) → has_number set j ≡ true → 2 ^ j ≤ set
 pow-le-set set j has =
-    elim (cases_lt set (2 ^ j)) [ inl small ↦ absurd (false≢true (sym (has_number-above set j j small (omega arith)) ∙ has)) | inr large ↦ large ]
+    elim (cases_lt set (2 ^ j)) [
+      | inl small ↦ absurd (false≢true (sym (has_number-above set j j small (omega arith)) ∙ has))
+      | inr large ↦ large
+    ]
 
 -- one more bit
 pub pow-more : (n : ℕ) → 2 ^ suc n ≡ 2 ^ n + 2 ^ n
@@ -35,7 +43,8 @@ numbers_below-lt test zero = lit< tt
 numbers_below-lt test (suc n) =
     let before = numbers_below-lt test n in
     let more = pow-more n in
-    cond_both (test n) (2 ^ n) 0 (λ bit. numbers_below test n + bit < 2 ^ suc n) (λ _. omega arith) (λ _. omega arith)
+    cond_both (test n) (2 ^ n) 0 (λ bit. numbers_below test n + bit < 2 ^ suc n) (λ _. omega arith)
+    (λ _. omega arith)
 
 pub numbers_below-none : (test : ℕ → Bool) → numbers_below test 0 ≡ 0
 unfolding numbers_below
@@ -113,7 +122,8 @@ one_more a n j false test small before is =
     let whole : a + 0 ≡ a = omega arith in
     elim (cases_eq j n) [
       | inl same ↦ ap (λ (set : ℕ). has_number set j) whole ∙ before
-          ∙ and_right (nat_lt j n) test (is same) ∙ sym (and_right (nat_lt j (suc n)) test (is same))
+          ∙ and_right (nat_lt j n) test (is same)
+          ∙ sym (and_right (nat_lt j (suc n)) test (is same))
       | inr other ↦ ap (λ (set : ℕ). has_number set j) whole ∙ before
           ∙ ap (λ (below : Bool). below && test) (sym (lt-suc-others j n other))
     ]
@@ -126,4 +136,5 @@ has_number-numbers_below test zero j =
     has_number-above 0 0 j (lit< tt) (omega arith)
     ∙ sym (and_left (nat_lt j 0) (test j) (le-ltb j 0 (omega arith)))
 has_number-numbers_below test (suc n) j =
-    one_more (numbers_below test n) n j (test n) (test j) (numbers_below-lt test n) (has_number-numbers_below test n j) (ap test)
+    one_more (numbers_below test n) n j (test n) (test j) (numbers_below-lt test n)
+    (has_number-numbers_below test n j) (ap test)

@@ -64,11 +64,13 @@ has_number-rest set j i has =
           rw (none, eq-eqb i j same) refl
       | inr other ↦
           let all : has_number set i ≡ ((i == j) || has_number (set - 2 ^ j) i) =
-          ap (λ (n : ℕ). has_number n i) (sym (rest-or set j has)) ∙ has_number-or (set - 2 ^ j) j i in
+          ap (λ (n : ℕ). has_number n i) (sym (rest-or set j has))
+          ∙ has_number-or (set - 2 ^ j) j i in
           rw (all, ne_eqb i j other) refl
     ]
 
-kept : (set j i : ℕ) → has_number set j ≡ false → has_number set i ≡ (not (i == j) && has_number set i)
+kept : (set j i : ℕ) → has_number set j ≡ false
+    → has_number set i ≡ (not (i == j) && has_number set i)
 kept set j i absent =
     elim (cases_eq i j) [
       | inl same ↦ rw (same, absent, eq-eqb j j refl) refl

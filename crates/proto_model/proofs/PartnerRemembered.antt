@@ -88,7 +88,8 @@ assigned-other infos (assign ∷ more) vars x alone =
     let apart = eqb-false assign.var x (is_false (assign.var == x) both.0) in
     let now = after_assign infos vars assign in
     assigned-other infos more now x both.1
-    ∙ slice_get-set_other vars assign.var x (stored_at infos assign.var (value_of vars assign.value))
+    ∙ slice_get-set_other vars assign.var x
+    (stored_at infos assign.var (value_of vars assign.value))
     (λ same. apart (sym same))
 
 -- ---- the partner
@@ -126,7 +127,8 @@ pub home_output-remembers : (protocol : NumberedProtocol) (state g : ℕ) (rule 
     (vars : List Value) (v : Value) → IsProper protocol → guard_at protocol.home state g ≡ Some rule
     → AreOfKinds protocol.home.vars vars → (awaits : AwaitsReplyFrom protocol p rule)
     → may_meet vars rule.kind j ≡ true
-    → may_meet (after_guard protocol.home vars rule rule.next j v).vars awaits.next.kind i ≡ (j == i)
+    → may_meet (after_guard protocol.home vars rule rule.next j v).vars awaits.next.kind i
+    ≡ (j == i)
 home_output-remembers protocol state g rule p j i vars v proper there kinds awaits meets =
     let body = protocol.home in
     let does = (home_guard protocol state g rule proper there).proper.action in

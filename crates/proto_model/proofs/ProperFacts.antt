@@ -58,7 +58,8 @@ pub guard_at-proper : (s : Side) (messages : List MessageInfo) (body : Body) (st
     → IsGuardOf s messages body state g rule
 guard_at-proper s messages body state g rule proper there =
     let by =
-    some_and_then (λ (i : StateInfo). slice_get i.rules g) (slice_get body.states state) rule there in
+    some_and_then (λ (i : StateInfo). slice_get i.rules g) (slice_get body.states state) rule
+    there in
     let info : StateInfo = by.0 in
     let count = length body.states in
     let is =
@@ -72,7 +73,8 @@ guard_at-proper s messages body state g rule proper there =
       at = by.1;
       guards = guards;
       place = ap (λ (rules : List Rule). slice_get rules g) guards ∙ by.2;
-      proper = AllByRecursion-at (IsProperRule s messages body.vars count) info.rules g rule is.rules by.2;
+      proper = AllByRecursion-at (IsProperRule s messages body.vars count) info.rules g rule
+          is.rules by.2;
       active = subst (IsActiveForm s) (sym guards) is.active;
     }
 
@@ -230,9 +232,11 @@ each-at body first second state g rule e there passes =
     let each =
     (and_parts (list_any first (all_rules body)) (each_that first second (all_rules body)) e).1 in
     let by =
-    some_and_then (λ (i : StateInfo). slice_get i.rules g) (slice_get body.states state) rule there in
+    some_and_then (λ (i : StateInfo). slice_get i.rules g) (slice_get body.states state) rule
+    there in
     then_second (first rule) (second rule)
-    (list_all-in_state (λ r. not (first r) || second r) body.states state g by.0 rule each by.1 by.2)
+    (list_all-in_state (λ r. not (first r) || second r) body.states state g by.0 rule each by.1
+    by.2)
     passes
 
 -- ---- directions
@@ -287,41 +291,42 @@ directed-in s messages (action.Input p n bound) m e takes =
     (same_Some n m takes) e
 directed-in s messages (action.Output p n sent) m e takes = absurd (cc)
 
-module _ (protocol : NumberedProtocol) (state g : ℕ) (rule : Rule) (proper : IsProper protocol) where
-  pub home_guard : guard_at protocol.home state g ≡ Some rule
-      → IsGuardOf side.Home protocol.messages protocol.home state g rule
-  home_guard there =
-      guard_at-proper side.Home protocol.messages protocol.home state g rule proper.home there
+module _ (protocol : NumberedProtocol) (state g : ℕ) (rule : Rule) (proper : IsProper protocol)
+  where
+    pub home_guard : guard_at protocol.home state g ≡ Some rule
+        → IsGuardOf side.Home protocol.messages protocol.home state g rule
+    home_guard there =
+        guard_at-proper side.Home protocol.messages protocol.home state g rule proper.home there
 
-  pub remote_guard : guard_at protocol.remote state g ≡ Some rule
-      → IsGuardOf side.Remote protocol.messages protocol.remote state g rule
-  remote_guard there =
-      guard_at-proper side.Remote protocol.messages protocol.remote state g rule proper.remote there
+    pub remote_guard : guard_at protocol.remote state g ≡ Some rule
+        → IsGuardOf side.Remote protocol.messages protocol.remote state g rule
+    remote_guard there =
+        guard_at-proper side.Remote protocol.messages protocol.remote state g rule proper.remote there
 
-  -- Home outputs and remote inputs name down messages, the others up messages.
-  pub home_output-down : (m : ℕ) → guard_at protocol.home state g ≡ Some rule
-      → message_out rule.kind ≡ Some m → goes_down protocol m ≡ true
-  home_output-down m there out =
-      directed-out side.Home protocol.messages rule.kind m
-      (home_guard there).proper.action.direction out
+    -- Home outputs and remote inputs name down messages, the others up messages.
+    pub home_output-down : (m : ℕ) → guard_at protocol.home state g ≡ Some rule
+        → message_out rule.kind ≡ Some m → goes_down protocol m ≡ true
+    home_output-down m there out =
+        directed-out side.Home protocol.messages rule.kind m
+        (home_guard there).proper.action.direction out
 
-  pub home_input-up : (m : ℕ) → guard_at protocol.home state g ≡ Some rule
-      → message_in rule.kind ≡ Some m → goes_up protocol m ≡ true
-  home_input-up m there takes =
-      directed-in side.Home protocol.messages rule.kind m
-      (home_guard there).proper.action.direction takes
+    pub home_input-up : (m : ℕ) → guard_at protocol.home state g ≡ Some rule
+        → message_in rule.kind ≡ Some m → goes_up protocol m ≡ true
+    home_input-up m there takes =
+        directed-in side.Home protocol.messages rule.kind m
+        (home_guard there).proper.action.direction takes
 
-  pub remote_output-up : (m : ℕ) → guard_at protocol.remote state g ≡ Some rule
-      → message_out rule.kind ≡ Some m → goes_up protocol m ≡ true
-  remote_output-up m there out =
-      directed-out side.Remote protocol.messages rule.kind m
-      (remote_guard there).proper.action.direction out
+    pub remote_output-up : (m : ℕ) → guard_at protocol.remote state g ≡ Some rule
+        → message_out rule.kind ≡ Some m → goes_up protocol m ≡ true
+    remote_output-up m there out =
+        directed-out side.Remote protocol.messages rule.kind m
+        (remote_guard there).proper.action.direction out
 
-  pub remote_input-down : (m : ℕ) → guard_at protocol.remote state g ≡ Some rule
-      → message_in rule.kind ≡ Some m → goes_down protocol m ≡ true
-  remote_input-down m there takes =
-      directed-in side.Remote protocol.messages rule.kind m
-      (remote_guard there).proper.action.direction takes
+    pub remote_input-down : (m : ℕ) → guard_at protocol.remote state g ≡ Some rule
+        → message_in rule.kind ≡ Some m → goes_down protocol m ≡ true
+    remote_input-down m there takes =
+        directed-in side.Remote protocol.messages rule.kind m
+        (remote_guard there).proper.action.direction takes
 
 -- ---- messages that are paired
 
@@ -545,8 +550,10 @@ given-typed messages vars rule message carried gives =
     let place : by.0 ≡ message.0 = ap (λ (pair : ℕ × Value). pair.0) of.2 in
     let sent : sends vars rule.kind of.0.carries ≡ message.1 =
     ap (λ (pair : ℕ × Value). pair.1) of.2 in
-    let at : slice_get messages message.0 ≡ Some of.0 = ap (slice_get messages) (sym place) ∙ of.1 in
-    let is = carried of.0 (record { place = by.0; message = of.0; out = by.1; there = of.1; same = refl }) in
+    let at : slice_get messages message.0 ≡ Some of.0 = ap (slice_get messages) (sym place)
+    ∙ of.1 in
+    let is = carried of.0
+    (record { place = by.0; message = of.0; out = by.1; there = of.1; same = refl }) in
     record {
       out = by.1 ∙ ap (λ (k : ℕ). Some k) place;
       there = slice_get_within messages message.0 of.0 at;
@@ -565,7 +572,8 @@ module _ (protocol : NumberedProtocol) (state g : ℕ) (rule : Rule) (vars : Lis
       → AreOfKinds protocol.home.vars (after_guard protocol.home vars rule rule.next partner v).vars
   home_guard-kinds partner v there kinds below received =
       AreOfKinds-completed protocol.messages protocol.home.vars vars rule partner v
-      (guard-typed side.Home protocol protocol.home state g rule vars proper proper.home there kinds)
+      (guard-typed side.Home protocol protocol.home state g rule vars proper proper.home there
+      kinds)
       below received
 
   pub home_guard-gives : (message : ℕ × Value) → guard_at protocol.home state g ≡ Some rule
@@ -573,7 +581,8 @@ module _ (protocol : NumberedProtocol) (state g : ℕ) (rule : Rule) (vars : Lis
       → IsGiven protocol.messages rule.kind message
   home_guard-gives message there kinds gives =
       let typed =
-      guard-typed side.Home protocol protocol.home state g rule vars proper proper.home there kinds in
+      guard-typed side.Home protocol protocol.home state g rule vars proper proper.home there
+      kinds in
       given-typed protocol.messages vars rule message
       (λ info offers.
       IsCarried-send protocol.messages protocol.home.vars vars rule info.carries typed offers)
@@ -587,7 +596,8 @@ module _ (protocol : NumberedProtocol) (state g : ℕ) (rule : Rule) (vars : Lis
       (after_guard protocol.remote vars rule rule.next partner v).vars
   remote_guard-kinds partner v there kinds below received =
       AreOfKinds-completed protocol.messages protocol.remote.vars vars rule partner v
-      (guard-typed side.Remote protocol protocol.remote state g rule vars proper proper.remote there kinds)
+      (guard-typed side.Remote protocol protocol.remote state g rule vars proper proper.remote there
+      kinds)
       below received
 
   pub remote_guard-gives : (message : ℕ × Value) → guard_at protocol.remote state g ≡ Some rule
@@ -595,7 +605,8 @@ module _ (protocol : NumberedProtocol) (state g : ℕ) (rule : Rule) (vars : Lis
       → IsGiven protocol.messages rule.kind message
   remote_guard-gives message there kinds gives =
       let typed =
-      guard-typed side.Remote protocol protocol.remote state g rule vars proper proper.remote there kinds in
+      guard-typed side.Remote protocol protocol.remote state g rule vars proper proper.remote there
+      kinds in
       given-typed protocol.messages vars rule message
       (λ info offers.
       IsCarried-send protocol.messages protocol.remote.vars vars rule info.carries typed offers)

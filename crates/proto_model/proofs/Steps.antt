@@ -86,7 +86,8 @@ tau_part-step : (body : Body) (part : Part) (g : ℕ) (rule : Rule) → TakesTau
 tau_part-step body part g rule takes =
     and_then-some (part_after_tau body part) (guard_at body part.state g) rule
     (Some (after_guard body part.vars rule rule.next 0 value.Unit)) takes.there
-    (when-true (is_tau rule.kind && is_open part.vars rule) (Some (after_guard body part.vars rule rule.next 0 value.Unit)) None
+    (when-true (is_tau rule.kind && is_open part.vars rule)
+    (Some (after_guard body part.vars rule rule.next 0 value.Unit)) None
     (and_from (is_tau rule.kind) (is_open part.vars rule) (ap is_tau takes.tau) takes.passes))
 
 TakesTau-next : (body : Body) (part : Part) (g : ℕ) (after : Part)
@@ -109,10 +110,12 @@ given-meets : (messages : List MessageInfo) (vars : List Value) (output input : 
     → given messages vars output.kind ≡ Some (meets.place, sends vars output.kind message.carries)
 given-meets messages vars output input message meets =
     and_then-some
-    (λ place. option_map (λ m. (place, sends vars output.kind m.carries)) (slice_get messages place))
+    (λ place. option_map (λ m. (place, sends vars output.kind m.carries))
+    (slice_get messages place))
     (message_out output.kind) meets.place
     (Some (meets.place, sends vars output.kind message.carries)) meets.sent
-    (map-some (λ m. (meets.place, sends vars output.kind m.carries)) (slice_get messages meets.place) message meets.there)
+    (map-some (λ m. (meets.place, sends vars output.kind m.carries))
+    (slice_get messages meets.place) message meets.there)
 
 given-some : (messages : List MessageInfo) (vars : List Value) (kind : RuleKind) (offer : ℕ × Value)
     → given messages vars kind ≡ Some offer
@@ -126,8 +129,13 @@ given-some messages vars kind offer e =
     let there =
     some_map (λ m. (out.0, sends vars kind m.carries)) (slice_get messages out.0) offer out.2 in
     let place : out.0 ≡ offer.0 = ap (λ (o : ℕ × Value). o.0) there.2 in
-    let worth : sends vars kind there.0.carries ≡ offer.1 = ap (λ (o : ℕ × Value). o.1) there.2 in
-    (there.0, out.1 ∙ ap (λ (n : ℕ). Some n) place, subst (λ (n : ℕ). slice_get messages n ≡ Some there.0) place there.1, worth)
+    let worth : sends vars kind there.0.carries ≡ offer.1 = ap (λ (o : ℕ × Value). o.1) there.2 in (
+      there.0,
+      out.1 ∙ ap (λ (n : ℕ). Some n) place,
+      subst
+          (λ (n : ℕ). slice_get messages n ≡ Some there.0) place there.1,
+      worth,
+    )
 
 accepts-meets : (messages : List MessageInfo) (vars : List Value) (output input : Rule)
     (message : MessageInfo) (meets : Meets messages output input message)
@@ -154,7 +162,8 @@ next-TauHome protocol old new g step =
     (after_guard protocol.home old.home.vars step.rule step.rule.next 0 value.Unit)
     (tau_part-step protocol.home old.home g step.rule step.takes)
     ∙ ap (λ (c : RvConfig). Some c)
-    (same_config (after_guard protocol.home old.home.vars step.rule step.rule.next 0 value.Unit) new.home old.remotes new.remotes (sym step.home) (sym step.remotes))
+    (same_config (after_guard protocol.home old.home.vars step.rule step.rule.next 0 value.Unit)
+    new.home old.remotes new.remotes (sym step.home) (sym step.remotes))
 
 TauHome-next : (protocol : NumberedProtocol) (old new : RvConfig) (g : ℕ)
     → rv_next protocol old (event.TauHome g) ≡ Some new → TauHomeStep protocol old g new
@@ -176,18 +185,22 @@ next-TauRemote protocol old new j g step =
     let after =
     after_guard protocol.remote step.remote.vars step.rule step.rule.next 0 value.Unit in
     and_then-some
-    (λ remote. option_map (λ part. with_parts old j (old.home, part)) (tau_part protocol.remote remote g))
+    (λ remote. option_map (λ part. with_parts old j (old.home, part))
+    (tau_part protocol.remote remote g))
     (slice_get old.remotes j) step.remote (Some new) step.there
-    (map-some (λ part. with_parts old j (old.home, part)) (tau_part protocol.remote step.remote g) after (tau_part-step protocol.remote step.remote g step.rule step.takes)
+    (map-some (λ part. with_parts old j (old.home, part)) (tau_part protocol.remote step.remote g)
+    after (tau_part-step protocol.remote step.remote g step.rule step.takes)
     ∙ ap (λ (c : RvConfig). Some c)
-    (same_config old.home new.home (slice_set old.remotes j after) new.remotes (sym step.home) (sym step.remotes)))
+    (same_config old.home new.home (slice_set old.remotes j after) new.remotes (sym step.home)
+    (sym step.remotes)))
 
 TauRemote-next : (protocol : NumberedProtocol) (old new : RvConfig) (j g : ℕ)
     → rv_next protocol old (event.TauRemote j g) ≡ Some new → TauRemoteStep protocol old j g new
 TauRemote-next protocol old new j g e =
     let there =
     some_and_then
-    (λ remote. option_map (λ part. with_parts old j (old.home, part)) (tau_part protocol.remote remote g))
+    (λ remote. option_map (λ part. with_parts old j (old.home, part))
+    (tau_part protocol.remote remote g))
     (slice_get old.remotes j) new e in
     let by =
     some_map (λ part. with_parts old j (old.home, part))
@@ -200,7 +213,8 @@ TauRemote-next protocol old new j g e =
       takes = tau.1;
       home = sym (ap (λ (c : RvConfig). c.home) by.2);
       remotes = sym
-          (ap (λ (part : Part). slice_set old.remotes j part) tau.2 ∙ ap (λ (c : RvConfig). c.remotes) by.2);
+          (ap (λ (part : Part). slice_set old.remotes j part) tau.2
+          ∙ ap (λ (c : RvConfig). c.remotes) by.2);
     }
 
 -- the configuration with the two that moved is the new one
@@ -232,14 +246,22 @@ next-Up protocol old new j h r step =
     let accepted =
     and_from (accepts old.home.vars step.input step.meets.place)
     (may_meet old.home.vars step.input.kind j)
-    (accepts-meets protocol.messages old.home.vars step.output step.input step.message step.meets step.passes) step.target in
+    (accepts-meets protocol.messages old.home.vars step.output step.input step.message step.meets
+    step.passes) step.target in
     and_then-some (λ (p : Part). option_map (with_parts old j) (up_parts protocol old.home p j h r))
     (slice_get old.remotes j) step.remote (Some new) step.there
     (ap (option_map (with_parts old j))
-    (and_then-some (λ output. option_and_then (up_by protocol old.home step.remote j output) (guard_at protocol.home old.home.state h)) (guard_at protocol.remote step.remote.state r) step.output (Some (home, remote)) step.gives
-    (and_then-some (up_by protocol old.home step.remote j step.output) (guard_at protocol.home old.home.state h) step.input (Some (home, remote)) step.takes
-    (and_then-some (up_given protocol old.home step.remote j step.output step.input) (given protocol.messages step.remote.vars step.output.kind) offer (Some (home, remote)) (given-meets protocol.messages step.remote.vars step.output step.input step.message step.meets)
-    (when-true (accepts old.home.vars step.input step.meets.place && may_meet old.home.vars step.input.kind j) (Some (home, remote)) None accepted))))
+    (and_then-some (λ output. option_and_then (up_by protocol old.home step.remote j output)
+    (guard_at protocol.home old.home.state h)) (guard_at protocol.remote step.remote.state r)
+    step.output (Some (home, remote)) step.gives
+    (and_then-some (up_by protocol old.home step.remote j step.output)
+    (guard_at protocol.home old.home.state h) step.input (Some (home, remote)) step.takes
+    (and_then-some (up_given protocol old.home step.remote j step.output step.input)
+    (given protocol.messages step.remote.vars step.output.kind) offer (Some (home, remote))
+    (given-meets protocol.messages step.remote.vars step.output step.input step.message
+    step.meets)
+    (when-true (accepts old.home.vars step.input step.meets.place && may_meet old.home.vars
+    step.input.kind j) (Some (home, remote)) None accepted))))
     ∙ ap (λ (c : RvConfig). Some c) moved)
 
 Up-next : (protocol : NumberedProtocol) (old new : RvConfig) (j h r : ℕ)
@@ -252,7 +274,8 @@ Up-next protocol old new j h r e =
     let moved = some_map (with_parts old j) (up_parts protocol old.home p j h r) new there.2 in
     let gives =
     some_and_then
-    (λ output. option_and_then (up_by protocol old.home p j output) (guard_at protocol.home old.home.state h))
+    (λ output. option_and_then (up_by protocol old.home p j output)
+    (guard_at protocol.home old.home.state h))
     (guard_at protocol.remote p.state r) moved.0 moved.1 in
     let output = gives.0 in
     let takes =
@@ -305,13 +328,20 @@ next-Down protocol old new j h r step =
     (λ (p : Part). option_map (with_parts old j) (down_parts protocol old.home p j h r))
     (slice_get old.remotes j) step.remote (Some new) step.there
     (ap (option_map (with_parts old j))
-    (and_then-some (λ output. option_and_then (down_by protocol old.home step.remote j output) (guard_at protocol.remote step.remote.state r)) (guard_at protocol.home old.home.state h) step.output (Some (home, remote)) step.gives
-    (and_then-some (down_by protocol old.home step.remote j step.output) (guard_at protocol.remote step.remote.state r) step.input (Some (home, remote)) step.takes
-    (when-true (is_open old.home.vars step.output && may_meet old.home.vars step.output.kind j) (option_and_then (down_given protocol old.home step.remote j step.output step.input) (given protocol.messages old.home.vars step.output.kind)) None open_target
+    (and_then-some (λ output. option_and_then (down_by protocol old.home step.remote j output)
+    (guard_at protocol.remote step.remote.state r)) (guard_at protocol.home old.home.state h)
+    step.output (Some (home, remote)) step.gives
+    (and_then-some (down_by protocol old.home step.remote j step.output)
+    (guard_at protocol.remote step.remote.state r) step.input (Some (home, remote)) step.takes
+    (when-true (is_open old.home.vars step.output && may_meet old.home.vars step.output.kind j)
+    (option_and_then (down_given protocol old.home step.remote j step.output step.input)
+    (given protocol.messages old.home.vars step.output.kind)) None open_target
     ∙ and_then-some (down_given protocol old.home step.remote j step.output step.input)
     (given protocol.messages old.home.vars step.output.kind) offer (Some (home, remote))
     (given-meets protocol.messages old.home.vars step.output step.input step.message step.meets)
-    (when-true (accepts step.remote.vars step.input step.meets.place) (Some (home, remote)) None (accepts-meets protocol.messages step.remote.vars step.output step.input step.message step.meets step.input_passes)))))
+    (when-true (accepts step.remote.vars step.input step.meets.place) (Some (home, remote)) None
+    (accepts-meets protocol.messages step.remote.vars step.output step.input step.message
+    step.meets step.input_passes)))))
     ∙ ap (λ (c : RvConfig). Some c) moved)
 
 Down-next : (protocol : NumberedProtocol) (old new : RvConfig) (j h r : ℕ)
@@ -325,7 +355,8 @@ Down-next protocol old new j h r e =
     let moved = some_map (with_parts old j) (down_parts protocol old.home p j h r) new there.2 in
     let gives =
     some_and_then
-    (λ output. option_and_then (down_by protocol old.home p j output) (guard_at protocol.remote p.state r))
+    (λ output. option_and_then (down_by protocol old.home p j output)
+    (guard_at protocol.remote p.state r))
     (guard_at protocol.home old.home.state h) moved.0 moved.1 in
     let output = gives.0 in
     let takes =
@@ -334,7 +365,8 @@ Down-next protocol old new j h r e =
     let input = takes.0 in
     let passes =
     some_when (is_open old.home.vars output && may_meet old.home.vars output.kind j)
-    (option_and_then (down_given protocol old.home p j output input) (given protocol.messages old.home.vars output.kind)) moved.0 takes.2 in
+    (option_and_then (down_given protocol old.home p j output input)
+    (given protocol.messages old.home.vars output.kind)) moved.0 takes.2 in
     let both =
     and_parts (is_open old.home.vars output) (may_meet old.home.vars output.kind j) passes.0 in
     let offer =
@@ -363,7 +395,8 @@ Down-next protocol old new j h r e =
       home = stand.0;
       remotes = stand.1
           ∙ ap
-          (λ (v : Value). slice_set old.remotes j (after_guard protocol.remote p.vars input input.next 0 v))
+          (λ (v : Value). slice_set old.remotes j
+          (after_guard protocol.remote p.vars input input.next 0 v))
           (sym message.3);
     }
 

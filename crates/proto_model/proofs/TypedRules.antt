@@ -1,4 +1,5 @@
--- What a rule sends is of its message's type, and completing a rule keeps each variable of its type.
+-- What a rule sends is of its message's type, and completing a rule keeps each variable of its
+-- type.
 use Rattle.std.proofs.Common.{◌≡◌, ℕ, zero, suc, ◌<◌, true, List, [], ◌∷◌, length, set, Option}
 use Rattle.std.proofs.Common.{Some, None, is_none, slice_get, refl, sym, ap, subst, ◌∙◌, arith}
 use Rattle.std.proofs.Common.{fold}
@@ -94,7 +95,8 @@ IsCarried-reduced : (c : Carry) (t : ValueType) (v : Value) → IsProperCarry c
 IsCarried-reduced carry.Nothing t v proper e is = absurd (cc)
 IsCarried-reduced (carry.Int n) t v proper e is =
     let same : t ≡ type.Int = cc in
-    IsIntBelow-modulo 65536 n v (omega (arith, proper.0)) (subst (λ (u : ValueType). IsOf u v) same is)
+    IsIntBelow-modulo 65536 n v (omega (arith, proper.0))
+    (subst (λ (u : ValueType). IsOf u v) same is)
 IsCarried-reduced carry.Node t v proper e is =
     let same : t ≡ type.Node = cc in subst (λ (u : ValueType). IsOf u v) same is
 IsCarried-reduced carry.Set t v proper e is =
@@ -127,37 +129,49 @@ IsCarried-offered infos vars c None typed proper range e =
     IsCarried-nothing c (none_is (carried_type c) e)
 IsCarried-offered infos vars c (Some x) typed proper range e =
     let both = one_type (carried_type c) (rule_expr_type infos x) e in
-    IsCarried-reduced c both.0 (value_of vars x) proper both.1 (value_of-type infos vars x both.0 typed range both.2)
+    IsCarried-reduced c both.0 (value_of vars x) proper both.1
+    (value_of-type infos vars x both.0 typed range both.2)
 
-IsCarried-sends : (s : Side) (messages : List MessageInfo) (infos : List VarInfo) (vars : List Value) (kind : RuleKind) (place : ℕ) (info : MessageInfo)
+IsCarried-sends : (s : Side) (messages : List MessageInfo) (infos : List VarInfo)
+    (vars : List Value) (kind : RuleKind) (place : ℕ) (info : MessageInfo)
     → AreTyped infos vars → IsProperCarry info.carries → message_out kind ≡ Some place
     → slice_get messages place ≡ Some info → IsActionInRange (length infos) (length messages) kind
     → rule_action_agrees infos s messages kind ≡ true
     → IsCarried info.carries (sends vars kind info.carries)
 IsCarried-sends s messages infos vars action.Tau place info typed proper out at range e =
     absurd (cc)
-IsCarried-sends s messages infos vars (action.Input p m bound) place info typed proper out at range e =
+IsCarried-sends s messages infos vars (action.Input p m bound) place info typed proper out at range
+    e =
     absurd (cc)
-IsCarried-sends s messages infos vars (action.Output p m sent) place info typed proper out at range e =
+IsCarried-sends s messages infos vars (action.Output p m sent) place info typed proper out at range
+    e =
     let same : m ≡ place = cc in
     let type_is = ap (rule_message_type messages) same ∙ message_type-at messages place info at in
-    let agrees = (and_parts (rule_partner_agrees infos s p) (value_agrees (rule_message_type messages m) (option_map (rule_expr_type infos) sent)) e).1 in
+    let agrees = (and_parts (rule_partner_agrees infos s p)
+    (value_agrees (rule_message_type messages m) (option_map (rule_expr_type infos) sent))
+    e).1 in
     IsCarried-offered infos vars info.carries sent typed proper range.2
-    (subst (λ (carried : Option ValueType). value_agrees carried (option_map (rule_expr_type infos) sent) ≡ true) type_is agrees)
+    (subst (λ (carried : Option ValueType). value_agrees carried
+    (option_map (rule_expr_type infos) sent) ≡ true) type_is agrees)
 
 -- what an output sends is of its message's type
-pub IsCarried-send : (messages : List MessageInfo) (infos : List VarInfo) (vars : List Value) (rule : Rule) (carries : Carry)
+pub IsCarried-send : (messages : List MessageInfo) (infos : List VarInfo) (vars : List Value)
+    (rule : Rule) (carries : Carry)
     → IsTyped messages infos vars rule → Offers messages rule carries
     → IsCarried carries (sends vars rule.kind carries)
 IsCarried-send messages infos vars rule carries typed offers =
-    let proper = AllByRecursion-at (λ m. IsProperCarry m.carries) messages offers.place offers.message typed.proper_carries offers.there in
+    let proper = AllByRecursion-at (λ m. IsProperCarry m.carries) messages offers.place
+    offers.message typed.proper_carries offers.there in
     let action = typed.proper_rule.action in
     subst (λ (c : Carry). IsCarried c (sends vars rule.kind c)) offers.same
-    (IsCarried-sends typed.side messages infos vars rule.kind offers.place offers.message (record { proper = typed.proper_infos; kinds = typed.kinds }) proper offers.out offers.there action.in_range action.types)
+    (IsCarried-sends typed.side messages infos vars rule.kind offers.place offers.message
+    (record { proper = typed.proper_infos; kinds = typed.kinds }) proper offers.out offers.there
+    action.in_range action.types)
 
 -- storing in a variable
 
--- A value is put at a place: the variables stay of their types if it is of the type of the variable there.
+-- A value is put at a place: the variables stay of their types if it is of the type of the variable
+-- there.
 AreOfKinds-set : (infos : List VarInfo) (vars : List Value) (place : ℕ) (v : Value)
     → AreOfKinds infos vars
     → ((info : VarInfo) → slice_get infos place ≡ Some info → IsOfKind info.kind v)
@@ -183,35 +197,44 @@ IsOfKind-stored_at (i ∷ is) (suc place) t v proper e of info at =
     IsOfKind-stored_at is place t v proper.1 e of info at
 
 -- the variables with one more value stored, of the type of its variable
-AreOfKinds-with_var : (infos : List VarInfo) (vars : List Value) (place : ℕ) (t : ValueType) (v : Value)
+AreOfKinds-with_var : (infos : List VarInfo) (vars : List Value) (place : ℕ) (t : ValueType)
+    (v : Value)
     → AreTyped infos vars → rule_var_type infos place ≡ Some t → IsOf t v
     → AreOfKinds infos (with_var infos vars place v)
 AreOfKinds-with_var infos vars place t v typed e of =
-    AreOfKinds-set infos vars place (stored_at infos place v) typed.kinds (IsOfKind-stored_at infos place t v typed.proper e of)
+    AreOfKinds-set infos vars place (stored_at infos place v) typed.kinds
+    (IsOfKind-stored_at infos place t v typed.proper e of)
 
 -- the partner, the bound variable, the assignments
 
-AreOfKinds-with_partner : (s : Side) (infos : List VarInfo) (vars : List Value) (p : RulePartner) (j : ℕ)
+AreOfKinds-with_partner : (s : Side) (infos : List VarInfo) (vars : List Value) (p : RulePartner)
+    (j : ℕ)
     → AreTyped infos vars → j < 64 → is_star_rule_partner s p ≡ true
     → rule_partner_agrees infos s p ≡ true → AreOfKinds infos (with_partner infos vars p j)
 AreOfKinds-with_partner s infos vars partner.Home j typed below star e = typed.kinds
 AreOfKinds-with_partner s infos vars (partner.Named x) j typed below star e = typed.kinds
 AreOfKinds-with_partner side.Home infos vars (partner.Any x) j typed below star e =
-    AreOfKinds-with_var infos vars x type.Node (value.Node j) typed (has_type type.Node (rule_var_type infos x) e) below
+    AreOfKinds-with_var infos vars x type.Node (value.Node j) typed
+    (has_type type.Node (rule_var_type infos x) e) below
 AreOfKinds-with_partner side.Home infos vars (partner.Member x y) j typed below star e =
-    AreOfKinds-with_var infos vars x type.Node (value.Node j) typed (has_type type.Node (rule_var_type infos x) (and_parts (is_of_type type.Node (rule_var_type infos x)) (is_of_type type.Set (rule_var_type infos y)) e).0) below
+    AreOfKinds-with_var infos vars x type.Node (value.Node j) typed
+    (has_type type.Node (rule_var_type infos x)
+    (and_parts (is_of_type type.Node (rule_var_type infos x))
+    (is_of_type type.Set (rule_var_type infos y)) e).0) below
 AreOfKinds-with_partner side.Remote infos vars (partner.Any x) j typed below star e = absurd (cc)
 AreOfKinds-with_partner side.Remote infos vars (partner.Member x y) j typed below star e =
     absurd (cc)
 
-AreOfKinds-with_bound : (infos : List VarInfo) (vars : List Value) (c : Carry) (bound : Option ℕ) (v : Value)
+AreOfKinds-with_bound : (infos : List VarInfo) (vars : List Value) (c : Carry) (bound : Option ℕ)
+    (v : Value)
     → AreTyped infos vars → IsProperCarry c → IsCarried c v
     → bound_agrees (carried_type c) (option_map (rule_var_type infos) bound) ≡ true
     → AreOfKinds infos (with_bound infos vars bound v)
 AreOfKinds-with_bound infos vars c None v typed proper is e = typed.kinds
 AreOfKinds-with_bound infos vars c (Some x) v typed proper is e =
     let both = one_type (carried_type c) (rule_var_type infos x) e in
-    AreOfKinds-with_var infos vars x both.0 v typed both.2 (IsOf-carried c both.0 v proper both.1 is)
+    AreOfKinds-with_var infos vars x both.0 v typed both.2
+    (IsOf-carried c both.0 v proper both.1 is)
 
 -- a message whose place is below their number is there
 message_there : (messages : List MessageInfo) (place : ℕ) → place < length messages
@@ -220,28 +243,43 @@ message_there [] place below = absurd (omega arith)
 message_there (m ∷ ms) zero below = (m, refl)
 message_there (m ∷ ms) (suc place) below = message_there ms place (omega arith)
 
-AreOfKinds-after_meeting : (s : Side) (messages : List MessageInfo) (infos : List VarInfo) (vars : List Value) (kind : RuleKind) (j : ℕ) (v : Value)
+AreOfKinds-after_meeting : (s : Side) (messages : List MessageInfo) (infos : List VarInfo)
+    (vars : List Value) (kind : RuleKind) (j : ℕ) (v : Value)
     → AllByRecursion (λ m. IsProperCarry m.carries) messages → AreTyped infos vars → j < 64
     → IsReceived messages kind v → IsProperAction s messages infos kind
     → AreOfKinds infos (after_meeting infos vars kind j v)
 AreOfKinds-after_meeting s messages infos vars action.Tau j v proper typed below received action =
     typed.kinds
-AreOfKinds-after_meeting s messages infos vars (action.Output p m sent) j v proper typed below received action =
+AreOfKinds-after_meeting s messages infos vars (action.Output p m sent) j v proper typed below
+    received action =
     AreOfKinds-with_partner s infos vars p j typed below action.star
-    (and_parts (rule_partner_agrees infos s p) (value_agrees (rule_message_type messages m) (option_map (rule_expr_type infos) sent)) action.types).0
-AreOfKinds-after_meeting s messages infos vars (action.Input p m bound) j v proper typed below received action =
-    let parts = and_parts (rule_partner_agrees infos s p) (bound_agrees (rule_message_type messages m) (option_map (rule_var_type infos) bound)) action.types in
+    (and_parts (rule_partner_agrees infos s p)
+    (value_agrees (rule_message_type messages m) (option_map (rule_expr_type infos) sent))
+    action.types).0
+AreOfKinds-after_meeting s messages infos vars (action.Input p m bound) j v proper typed below
+    received action =
+    let parts = and_parts (rule_partner_agrees infos s p)
+    (bound_agrees (rule_message_type messages m) (option_map (rule_var_type infos) bound))
+    action.types in
     let there = message_there messages m action.in_range.1 in
-    let agrees = subst (λ (carried : Option ValueType). bound_agrees carried (option_map (rule_var_type infos) bound) ≡ true) (message_type-at messages m there.0 there.1) parts.1 in
+    let agrees = subst (λ (carried : Option ValueType). bound_agrees carried
+    (option_map (rule_var_type infos) bound) ≡ true)
+    (message_type-at messages m there.0 there.1) parts.1 in
     AreOfKinds-with_bound infos (with_partner infos vars p j) there.0.carries bound v
-    (record { proper = typed.proper; kinds = AreOfKinds-with_partner s infos vars p j typed below action.star parts.0 })
-    (AllByRecursion-at (λ i. IsProperCarry i.carries) messages m there.0 proper there.1) (received there.0 there.1) agrees
+    (record {
+      proper = typed.proper;
+      kinds = AreOfKinds-with_partner s infos vars p j typed below
+          action.star parts.0;
+    })
+    (AllByRecursion-at (λ i. IsProperCarry i.carries) messages m there.0 proper there.1)
+    (received there.0 there.1) agrees
 
 AreOfKinds-after_assign : (infos : List VarInfo) (vars : List Value) (a : RuleAssign)
     → AreTyped infos vars → IsProperAssign infos a → AreOfKinds infos (after_assign infos vars a)
 AreOfKinds-after_assign infos vars a typed proper =
     let both = one_type (rule_var_type infos a.var) (rule_expr_type infos a.value) proper.types in
-    AreOfKinds-with_var infos vars a.var both.0 (value_of vars a.value) typed both.1 (value_of-type infos vars a.value both.0 typed proper.value both.2)
+    AreOfKinds-with_var infos vars a.var both.0 (value_of vars a.value) typed both.1
+    (value_of-type infos vars a.value both.0 typed proper.value both.2)
 
 AreOfKinds-assigned : (infos : List VarInfo) (assigns : List RuleAssign) (vars : List Value)
     → AreTyped infos vars → AllByRecursion (IsProperAssign infos) assigns
@@ -249,16 +287,23 @@ AreOfKinds-assigned : (infos : List VarInfo) (assigns : List RuleAssign) (vars :
 AreOfKinds-assigned infos [] vars typed proper = typed.kinds
 AreOfKinds-assigned infos (a ∷ more) vars typed proper =
     AreOfKinds-assigned infos more (after_assign infos vars a)
-    (record { proper = typed.proper; kinds = AreOfKinds-after_assign infos vars a typed proper.0 }) proper.1
+    (record { proper = typed.proper; kinds = AreOfKinds-after_assign infos vars a typed proper.0 })
+    proper.1
 
 -- completing a rule keeps each variable of its type
-pub AreOfKinds-completed : (messages : List MessageInfo) (infos : List VarInfo) (vars : List Value) (rule : Rule) (j : ℕ) (v : Value)
+pub AreOfKinds-completed : (messages : List MessageInfo) (infos : List VarInfo) (vars : List Value)
+    (rule : Rule) (j : ℕ) (v : Value)
     → IsTyped messages infos vars rule → j < 64 → IsReceived messages rule.kind v
     → AreOfKinds infos (completed infos vars rule j v)
 AreOfKinds-completed messages infos vars rule j v typed below received =
-    let before : AreTyped infos vars = record { proper = typed.proper_infos; kinds = typed.kinds } in
+    let before : AreTyped infos vars = record
+    { proper = typed.proper_infos; kinds = typed.kinds } in
     AreOfKinds-assigned infos rule.assigns (after_meeting infos vars rule.kind j v)
-    (record { proper = typed.proper_infos; kinds = AreOfKinds-after_meeting typed.side messages infos vars rule.kind j v typed.proper_carries before below received typed.proper_rule.action })
+    (record {
+      proper = typed.proper_infos;
+      kinds = AreOfKinds-after_meeting typed.side messages
+          infos vars rule.kind j v typed.proper_carries before below received typed.proper_rule.action;
+    })
     typed.proper_rule.assigns
 
 -- the values are as many as the declarations

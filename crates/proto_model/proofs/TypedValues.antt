@@ -160,7 +160,9 @@ var_value-type : (infos : List VarInfo) (vars : List Value) (place : ℕ) (t : V
 var_value-type infos vars place t typed e =
     let found = declared infos place t e in
     let info = found.0 in
-    let is = IsOf-kind info.kind (var_value vars place) (AllByRecursion-at IsProperVar infos place info typed.proper found.1).kind (IsOfKind-at infos vars place info typed.kinds found.1) in
+    let is = IsOf-kind info.kind (var_value vars place)
+    (AllByRecursion-at IsProperVar infos place info typed.proper found.1).kind
+    (IsOfKind-at infos vars place info typed.kinds found.1) in
     subst (λ (u : ValueType). IsOf u (var_value vars place)) found.2 is
 
 pub term_value-type : (infos : List VarInfo) (vars : List Value) (x : RuleTerm) (t : ValueType)
@@ -179,8 +181,12 @@ pub value_of-type : (infos : List VarInfo) (vars : List Value) (x : RuleExpr) (t
     → IsOf t (value_of vars x)
 value_of-type infos vars (expr.One x) t typed range e = term_value-type infos vars x t typed range e
 value_of-type infos vars (expr.Plus x y) t typed range e =
-    operation-type plus plus-operation (rule_term_type infos x) (rule_term_type infos y) t (term_value vars x) (term_value vars y) e
-    (λ u is. term_value-type infos vars x u typed range.0 is) (λ u is. term_value-type infos vars y u typed range.1 is)
+    operation-type plus plus-operation (rule_term_type infos x) (rule_term_type infos y) t
+    (term_value vars x) (term_value vars y) e
+    (λ u is. term_value-type infos vars x u typed range.0 is)
+    (λ u is. term_value-type infos vars y u typed range.1 is)
 value_of-type infos vars (expr.Minus x y) t typed range e =
-    operation-type minus minus-operation (rule_term_type infos x) (rule_term_type infos y) t (term_value vars x) (term_value vars y) e
-    (λ u is. term_value-type infos vars x u typed range.0 is) (λ u is. term_value-type infos vars y u typed range.1 is)
+    operation-type minus minus-operation (rule_term_type infos x) (rule_term_type infos y) t
+    (term_value vars x) (term_value vars y) e
+    (λ u is. term_value-type infos vars x u typed range.0 is)
+    (λ u is. term_value-type infos vars y u typed range.1 is)

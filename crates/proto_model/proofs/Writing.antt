@@ -13,7 +13,8 @@ use Rattle.proto_model.specs.declared.layout.writer.Writer.{Writer}
 pub Puts-append : (x y : Text) (a b c : Writer) → Puts x a b → Puts y b c → Puts (x ++ y) a c
 Puts-append x y a b c p q = record {
   text = λ start before h.
-      subst (λ (text : Text). Appends text c.result start c.text.items) (append_assoc before x y) (q.text start (before ++ x) (p.text start before h));
+      subst (λ (text : Text). Appends text c.result start c.text.items) (append_assoc before x y)
+      (q.text start (before ++ x) (p.text start before h));
   tight = q.tight ∙ p.tight;
 }
 
@@ -23,7 +24,8 @@ unfolding laid tight_after
 laid-push tight [] m = append-nil (mark_text tight m)
 laid-push tight (n ∷ ms) m =
     ap (λ (text : Text). mark_text tight n ++ text) (laid-push (is_tight_behind n) ms m)
-    ∙ sym (append_assoc (mark_text tight n) (laid (is_tight_behind n) ms) (mark_text (tight_after (is_tight_behind n) ms) m))
+    ∙ sym (append_assoc (mark_text tight n) (laid (is_tight_behind n) ms)
+    (mark_text (tight_after (is_tight_behind n) ms) m))
 
 tight_after-push : (tight : Bool) (ms : List Mark) (m : Mark)
     → tight_after tight (ms ++ m ∷ []) ≡ is_tight_behind m
@@ -39,7 +41,8 @@ Lays-mark m a b p = λ start before stands.
     ap (λ (tight : Bool). laid true before ++ mark_text tight m) stands.tight
     ∙ sym (laid-push true before m) in
     record {
-      text = subst (λ (text : Text). Appends text b.result start b.text.items) grows (p.text start (laid true before) stands.text);
+      text = subst (λ (text : Text). Appends text b.result start b.text.items) grows
+          (p.text start (laid true before) stands.text);
       tight = sym (tight_after-push true before m);
     }
 
@@ -47,7 +50,8 @@ Lays-mark m a b p = λ start before stands.
 pub Lays-append : (xs ys : List Mark) (a b c : Writer) → Lays xs a b → Lays ys b c
     → Lays (xs ++ ys) a c
 Lays-append xs ys a b c p q = λ start before stands.
-    subst (λ (marks : List Mark). Stands start marks c) (append_assoc before xs ys) (q start (before ++ xs) (p start before stands))
+    subst (λ (marks : List Mark). Stands start marks c) (append_assoc before xs ys)
+    (q start (before ++ xs) (p start before stands))
 
 pub words-append : (ts us : List Token) → words (ts ++ us) ≡ words ts ++ words us
 words-append [] us = refl

@@ -1,4 +1,5 @@
--- Sets of numbers below 64, of remotes or of states: a set is a number whose bit j is 1 exactly where
+-- Sets of numbers below 64, of remotes or of states: a set is a number whose bit j is 1 exactly
+-- where
 -- j is in it.
 use Rattle.std.specs.Prelude.{ℕ, zero, suc, ◌+◌, ◌-◌, ◌^◌, Bool, ◌==◌, nat_lt, if◌then◌else◌, List}
 use Rattle.std.specs.Prelude.{[], ◌∷◌, ◌++◌, bit_or}

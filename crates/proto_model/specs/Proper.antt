@@ -158,12 +158,16 @@ IsActiveForm side.Remote rules =
     list_any (λ r. is_output_kind r.kind) rules ≡ true
     → (r : Rule) × (rules ≡ r ∷ []) × (r.conds ≡ [])
 
+-- the most guards that a state may have
+abbrev pub most_guards : ℕ
+most_guards = 16
+
 -- A state of a process with these variables and so many states: its name is not too long, it has at
--- most 16 rules, each is small and proper, and active form holds.
+-- most 16 guards, each is small and proper, and active form holds.
 pub record IsProperState (s : Side) (messages : List MessageInfo) (vars : List VarInfo) (states : ℕ)
     (state : StateInfo) : Type 0 where
   pub short_name : IsShortName state.name
-  pub few_rules : length state.rules ≤ 16
+  pub few_rules : length state.rules ≤ most_guards
   pub small_rules : AllByRecursion IsSmallRule state.rules
   pub rules : AllByRecursion (IsProperRule s messages vars states) state.rules
   pub active : IsActiveForm s state.rules

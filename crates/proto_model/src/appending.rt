@@ -1,5 +1,6 @@
 //! Appending bytes to a text that is put together piece by piece. Once memory ran out nothing more
-//! is appended. A text begins with `Ok(())`, and each call is handed what the one before it answered.
+//! is appended. A text begins with `Ok(())`, and each call is handed what the one before it
+//! answered.
 
 ghost use Rattle.std.specs.Prelude.{decimal};
 ghost use Rattle.proto_model.specs.Continued.{Continues};

@@ -5,6 +5,7 @@
 //! - `numbered`, `mode`: the numbered form, and the two modes in which it is compiled.
 //! - `rendezvous`: the configurations and events of the rendezvous meaning.
 //! - `values`: how expressions, conditions and guards compute.
+//! - `offers`: the guards of a state, and what each of them gives or accepts.
 //! - `layout`: the laid-out text of a protocol.
 //! - `texts`: the texts of values, events and processes.
 //! - `appending`: how both put their texts together.
@@ -23,6 +24,7 @@ mod layout;
 mod mode;
 mod name;
 mod numbered;
+mod offers;
 mod protocol;
 mod rendezvous;
 mod texts;
@@ -38,9 +40,10 @@ pub use numbered::{
     Body, MessageInfo, NumberedClaim, Rule, RuleAssign, RuleAtom, RuleExpr, RuleKind, RulePartner,
     RuleTerm, Side, StateInfo, Value, ValueType, VarInfo,
 };
+pub use offers::{accepts, given, guard_at, guards_of, is_open_tau, is_output, is_tau};
 pub use protocol::{Carry, Claim, Initial, Message, Process, Protocol, State, Var, VarKind};
 pub use rendezvous::{Event, Part, RvConfig};
-pub use texts::{event_text, message_text, rv_line, vars_text};
+pub use texts::{event_text, message_text, rv_line, separator, vars_text};
 pub use values::{
     Vars, complete, eval, first_vars, guard_open, has_number, is_target, send_value, targets,
 };

@@ -11,6 +11,7 @@ use crate::numbered::{Body, MessageInfo, Value};
 use crate::rendezvous::{Event, Part};
 use crate::texts::pieces::{put_event, put_line, put_message, put_vars};
 use crate::values::Vars;
+pub use pieces::separator;
 use rv_base::NoMemory;
 use std::alloc::Global;
 

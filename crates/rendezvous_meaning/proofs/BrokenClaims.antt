@@ -108,10 +108,11 @@ abbrev broken_from : ℕ → List NumberedClaim → List ℕ → Option ℕ
 broken_from first claims states = position_from (λ c. not (holds c states)) first claims
 
 -- the number of the first broken claim, where the claims count from this number
-pub record Found (first : ℕ) (claims : List NumberedClaim) (states : List ℕ) (number : ℕ) : Type 0 where
-  pub place : ℕ
-  pub number_is : number ≡ first + place
-  pub found : IsFirstBroken claims states place
+pub record Found (first : ℕ) (claims : List NumberedClaim) (states : List ℕ) (number : ℕ) : Type 0
+  where
+    pub place : ℕ
+    pub number_is : number ≡ first + place
+    pub found : IsFirstBroken claims states place
 
 none-means : (first : ℕ) (claims : List NumberedClaim) (states : List ℕ)
     → broken_from first claims states ≡ None → AllHold claims states

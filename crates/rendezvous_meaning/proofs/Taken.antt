@@ -34,6 +34,7 @@ taken-RvStep protocol old new what false stepped next step =
 pub IsConfigOf-taken : (protocol : NumberedProtocol) (old new : RvConfig) (what : Event)
     (taken : Bool) → IsProper protocol → IsConfigOf protocol old
     → Stepped taken old new (rv_next protocol old what) → IsConfigOf protocol new
-IsConfigOf-taken protocol old new what true proper stands stepped = IsConfigOf-step protocol old what new proper stands (RvStep-next protocol old what new stepped)
+IsConfigOf-taken protocol old new what true proper stands stepped = IsConfigOf-step protocol old
+    what new proper stands (RvStep-next protocol old what new stepped)
 IsConfigOf-taken protocol old new what false proper stands stepped = subst (IsConfigOf protocol)
     (sym stepped.1) stands

@@ -1,3 +1,4 @@
 pub mod Standing
 pub mod Stepped
 pub mod Claims
+pub mod GivenMessage

@@ -8,9 +8,10 @@ ghost use Rattle.proto_model.specs.Rendezvous.{rv_start, RvStep, IsConfigOf};
 ghost use Rattle.proto_model.specs.RendezvousNext.{rv_next};
 ghost use Rattle.proto_model.specs.declared.rendezvous.RvConfig.{RvConfig as Configuration};
 ghost use Rattle.rendezvous_meaning.specs.Stepped.{Stepped};
+ghost use Rattle.rendezvous_meaning.specs.GivenMessage.{given_in};
 
-use crate::moves::{down_parts, tau_part, up_parts};
-use proto_model::{Body, Event, Part, RvConfig, first_vars};
+use crate::moves::{down_parts, given_by, tau_part, up_parts};
+use proto_model::{Body, Event, Part, RvConfig, Value, first_vars};
 use rv_base::{Items, NoMemory};
 use star_check::Checked;
 use std::alloc::Global;
@@ -66,6 +67,15 @@ impl<'a> RvMachine<'a> {
             (rv_next self.old.protocol self.old.config event) }
     {
         take(self.protocol, &mut self.config, event)
+    }
+
+    /// The number of the message that is given in the event where the machine stands, and its
+    /// value. `None` in a local step, and where the sender is not there or gives no message by this
+    /// guard.
+    pub fn given(&self, event: Event) -> Option<(u8, Value)>
+        ensures { result ≡ given_in self.now.protocol self.now.config event }
+    {
+        given_in(self.protocol, &self.config, event)
     }
 
     /// The protocol whose events the machine takes.
@@ -180,6 +190,20 @@ fn down(protocol: &Checked, config: &mut RvConfig, j: u32, h: u32, r: u32) -> bo
     config.home = home;
     config.remotes.set(j as usize, remote);
     true
+}
+
+// The number of the message that is given in the event in this configuration, and its value.
+fn given_in(protocol: &Checked, config: &RvConfig, event: Event) -> Option<(u8, Value)>
+    ensures { result ≡ given_in protocol.now.protocol config.now event }
+{
+    match event {
+        Event::TauHome(_) | Event::TauRemote(_, _) => None,
+        Event::Up(j, _, r) => {
+            let remote = remote_at(config, j)?;
+            given_by(protocol, protocol.remote(), &remote, r)
+        }
+        Event::Down(_, h, _) => given_by(protocol, protocol.home(), &config.home, h),
+    }
 }
 
 // Takes the event in this configuration, and answers whether it takes place.

@@ -28,7 +28,8 @@ use Rattle.request_reply.proofs.Both.{first_passes}
 use Rattle.request_reply.proofs.Leads.{is_it}
 
 at_it : (test : ℕ → Bool) (p k : ℕ) → test k ≡ true → (k == p) ≡ true → test p ≡ true
-at_it test p k passes same = let e : k ≡ p = eqb-true k p same in subst (λ n. test n ≡ true) e passes
+at_it test p k passes same = let e : k ≡ p = eqb-true k p same in subst (λ n. test n ≡ true) e
+    passes
 
 -- A process sends the one way and takes the other.
 sends : Side → List MessageInfo → ℕ → Bool
@@ -116,7 +117,8 @@ only_of_state : (s : Side) (messages : List MessageInfo) (body : Body) (place : 
 only_of_state s messages body place None next proper at is = absurd (cc)
 only_of_state s messages body place (Some state) next proper at is =
     only_of-proper s messages body.vars (length body.states) state.rules next
-    (AllByRecursion-at (IsProperState s messages body.vars (length body.states)) body.states place state proper.states at).rules is
+    (AllByRecursion-at (IsProperState s messages body.vars (length body.states)) body.states place
+    state proper.states at).rules is
 
 only_next-proper : (s : Side) (messages : List MessageInfo) (body : Body) (rule next : Rule)
     → IsProperBody s messages body → only_next body rule ≡ Some next
@@ -145,7 +147,8 @@ from-takes s messages rule false m directed is = absurd (cc)
 
 next-takes : (s : Side) (messages : List MessageInfo) (message : Rule → Option ℕ) (m : ℕ)
     (o : Option Rule)
-    → ((next : Rule) → is_directed_rule s messages next.kind ≡ true → is_it m (message next) ≡ true → takes s messages m ≡ true)
+    → ((next : Rule) → is_directed_rule s messages next.kind ≡ true → is_it m (message next) ≡ true
+    → takes s messages m ≡ true)
     → ((next : Rule) → o ≡ Some next → is_directed_rule s messages next.kind ≡ true)
     → is_it m (option_and_then message o) ≡ true → takes s messages m ≡ true
 next-takes s messages message m None step directed is = absurd (cc)
@@ -154,7 +157,8 @@ next-takes s messages message m (Some next) step directed is = step next (direct
 only_next-takes : (s : Side) (messages : List MessageInfo) (body : Body) (message : Rule → Option ℕ)
     (rule : Rule) (m : ℕ)
     → IsProperBody s messages body
-    → ((next : Rule) → is_directed_rule s messages next.kind ≡ true → is_it m (message next) ≡ true → takes s messages m ≡ true)
+    → ((next : Rule) → is_directed_rule s messages next.kind ≡ true → is_it m (message next) ≡ true
+    → takes s messages m ≡ true)
     → is_it m (option_and_then message (only_next body rule)) ≡ true → takes s messages m ≡ true
 only_next-takes s messages body message rule m proper step is =
     next-takes s messages message m (only_next body rule) step
@@ -213,7 +217,8 @@ up_request protocol proper q p is =
       some_goes_out side.Remote protocol.messages protocol.remote q proper.remote
           (some_first (gives_message q) awaits_p (all_rules protocol.remote) is),
       some_passes_any awaits_p (takes side.Remote protocol.messages p)
-          (λ rule. only_next-takes side.Remote protocol.messages protocol.remote awaited rule p proper.remote
+          (λ rule. only_next-takes side.Remote protocol.messages protocol.remote awaited rule p
+          proper.remote
           (λ next. awaited-takes side.Remote protocol.messages next p))
           (all_rules protocol.remote)
           (some_second (gives_message q) awaits_p (all_rules protocol.remote) is),
@@ -231,7 +236,8 @@ down_request protocol proper m p is =
       some_goes_out side.Home protocol.messages protocol.home m proper.home
           (some_first (gives_message m) awaits_p (all_rules protocol.home) is),
       some_passes_any awaits_p (takes side.Home protocol.messages p)
-          (λ rule. output-takes side.Home protocol.messages protocol.home rule p (output_var rule.kind) proper.home)
+          (λ rule. output-takes side.Home protocol.messages protocol.home rule p
+          (output_var rule.kind) proper.home)
           (all_rules protocol.home)
           (some_second (gives_message m) awaits_p (all_rules protocol.home) is),
     )

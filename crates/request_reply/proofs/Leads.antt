@@ -65,7 +65,8 @@ from_target protocol p rule x =
     is_it-if p (leaves_alone x rule)
     (goes_to_only protocol.home (λ input. is_from x input.kind && awaits p input) rule)
     (option_and_then (awaited_from x) (only_next protocol.home rule))
-    (goes_to_only-only_next p (λ input. is_from x input.kind && awaits p input) (awaited_from x) (awaits-awaited_from p x) protocol.home rule)
+    (goes_to_only-only_next p (λ input. is_from x input.kind && awaits p input) (awaited_from x)
+    (awaits-awaited_from p x) protocol.home rule)
 
 of_output : (protocol : NumberedProtocol) (p : ℕ) (rule : Rule) (o : Option ℕ)
     → option_map_or (awaits_from_target protocol p rule) o false

@@ -34,7 +34,8 @@ leaves p some each Never = false
 two_replies : (p q k : ℕ) (some each b : Bool) → (q == k) ≡ b
     → leaves p some each (cond b (Reply q) Never) ≡ ((q == p) && ((k == p) && each))
 unfolding leaves
-two_replies p q k some each true same = let e : q ≡ k = eqb-true q k same in rw e (grind (arith, nat_tests))
+two_replies p q k some each true same = let e : q ≡ k = eqb-true q k same in rw e
+    (grind (arith, nat_tests))
 two_replies p q k some each false other = grind (arith, nat_tests)
 
 one_more : (p : ℕ) (some each b : Bool) (o : Option ℕ) (kept : Candidate)

@@ -17,8 +17,10 @@ left_at look given body kept lent count place same each is within =
     ap (λ candidates. get_or candidates place Unseen) same
     ∙ (each place within ∙ ap (λ process. candidate look process place) is)
 
-pub one_more_reply : (reply_of : ℕ → Option ℕ) (place : ℕ) (reply : Option ℕ) (before after : List (Option ℕ))
-    → after ≡ before ++ reply ∷ [] → before ≡ map reply_of (range_with_len 0 place) → reply ≡ reply_of place
+pub one_more_reply : (reply_of : ℕ → Option ℕ) (place : ℕ) (reply : Option ℕ)
+    (before after : List (Option ℕ))
+    → after ≡ before ++ reply ∷ [] → before ≡ map reply_of (range_with_len 0 place)
+    → reply ≡ reply_of place
     → after ≡ map reply_of (range_with_len 0 (place + 1))
 one_more_reply reply_of place reply before after pushed so_far is =
     pushed

@@ -47,7 +47,8 @@ noted_all_state look body kept states i state within is =
     ap (λ ss. noted_all look body kept (flat_map (λ s. s.rules) ss))
     (take_more states i state within ∙ ap (λ s. take i states ++ s ∷ []) (sym is))
     ∙ (ap (noted_all look body kept) (flat_map-append (λ s. s.rules) (take i states) (state ∷ []))
-    ∙ (noted_all-append look body kept (flat_map (λ s. s.rules) (take i states)) (flat_map (λ s. s.rules) (state ∷ []))
+    ∙ (noted_all-append look body kept (flat_map (λ s. s.rules) (take i states))
+    (flat_map (λ s. s.rules) (state ∷ []))
     ∙ ap
     (noted_all look body (noted_all look body kept (flat_map (λ s. s.rules) (take i states)))) one))
 

@@ -35,7 +35,7 @@ use Rattle.abstraction_map.specs.declared.told.Told.TheVariants.{Is}
 use Rattle.abstraction_map.proofs.ByCase.{home-idle}
 use Rattle.abstraction_map.proofs.HomeTakeMeans.{take-gives}
 use Rattle.abstraction_map.proofs.EventsGive.{RemoteGives-is, answer-gives, reply-gives}
-use Rattle.run_replay.specs.ToldWords.{given_by, given_in}
+use Rattle.rendezvous_meaning.specs.GivenMessage.{given_by, given_in}
 use Rattle.run_replay.specs.MessageBehind.{held_message, slot_message, due_message}
 use Rattle.run_replay.specs.MessageBehind.{message_behind}
 

@@ -43,7 +43,8 @@ module _ (setting : Setting) (c : Config) (s : Step) where
   -- the words of a step that is told so
   abbrev pub words_of : Told → Text
   words_of told =
-      step_text s ++ (codes ": " ++ (told_words setting.protocol (abstraction setting.protocol c) told
+      step_text s ++ (codes ": "
+      ++ (told_words setting.protocol (abstraction setting.protocol c) told
       ++ codes "\n"))
 
   module _ (claims : List NumberedClaim) (told : Told) (start words : Text)
@@ -109,7 +110,8 @@ same-running claims claims_at setting setting_at c c_at is_claims is_setting is_
     rw (is_claims, is_setting, is_config) refl
 
 -- a machine over such links and this table, at the start, and the claims
-pub starts-so : {L : Type 0} (lists : L → List LinkPair) (checked : CheckedProtocol) (table : Tabled)
+pub starts-so : {L : Type 0} (lists : L → List LinkPair) (checked : CheckedProtocol)
+    (table : Tabled)
     (machine : Standing L) (links : L) (claims : List NumberedClaim) (n k : ℕ)
     → claims ≡ checked.claims → table ≡ table_in checked.protocol table.mode
     → lists links ≡ replicate n no_packets
@@ -117,7 +119,8 @@ pub starts-so : {L : Type 0} (lists : L → List LinkPair) (checked : CheckedPro
     → config lists machine ≡ start (protocol_of table) (length (lists links))
     → running_so claims (setting_of machine.table machine.slots) (config lists machine)
     ≡ run_start checked table.mode n k
-starts-so lists checked table machine links claims n k is_claims is_table are_links has_table has_slots
+starts-so lists checked table machine links claims n k is_claims is_table are_links has_table
+    has_slots
     starts =
     let told : protocol_of table ≡ checked.protocol =
     ap protocol_of is_table ∙ protocol_of-table_in checked.protocol table.mode in

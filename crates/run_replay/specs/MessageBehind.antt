@@ -5,6 +5,7 @@ use Rattle.std.specs.Option.{option_map, option_and_then}
 use Rattle.proto_model.specs.Numbered.{NumberedProtocol}
 use Rattle.proto_model.specs.Guards.{part}
 use Rattle.proto_model.specs.declared.numbered.Value.{Value}
+use Rattle.rendezvous_meaning.specs.GivenMessage.{given_by}
 use Rattle.controller_table.specs.declared.rows.Place.{Place}
 use Rattle.controller_table.specs.declared.rows.Place.TheVariants.{Comm, Trans, Due}
 use Rattle.slot_reserve.specs.Requests.{first_of}
@@ -15,7 +16,6 @@ use Rattle.async_shape.specs.declared.config.RemoteState.{RemoteState}
 use Rattle.async_shape.specs.declared.config.Request.{Request}
 use Rattle.async_shape.specs.declared.step.Step.{Step}
 use Rattle.async_shape.specs.declared.step.Step.TheVariants as step
-use Rattle.run_replay.specs.ToldWords.{given_by}
 
 -- the message of a held request, and its value
 abbrev pub held_message : Held → ℕ × Value

@@ -7,10 +7,10 @@ use Rattle.std.specs.List.{join_with_byte}
 use Rattle.rv_base.specs.Lists.{flat_from}
 use Rattle.proto_model.specs.Tokens.{Text}
 use Rattle.proto_model.specs.Numbered.{NumberedProtocol}
-use Rattle.proto_model.specs.Texts.{message_text, vars_text, process_text}
-use Rattle.proto_model.specs.declared.numbered.Value.{Value}
+use Rattle.proto_model.specs.Texts.{vars_text, process_text}
 use Rattle.proto_model.specs.declared.numbered.MessageInfo.{MessageInfo}
 use Rattle.proto_model.specs.declared.numbered.Body.{Body}
+use Rattle.rendezvous_meaning.specs.GivenMessage.{numbered_message}
 use Rattle.controller_table.specs.declared.rows.Place.{Place}
 use Rattle.controller_table.specs.declared.rows.Place.TheVariants.{Comm, Trans, Due}
 use Rattle.slot_reserve.specs.declared.held.Held.{Held}
@@ -47,10 +47,6 @@ remote_place_text body (Trans g) = name_of body g.state ++ codes "*"
 remote_place_text body (Due g) = name_of body g.state ++ codes "!"
 
 module _ (messages : List MessageInfo) where
-  -- the message with this number, and its value
-  abbrev pub numbered_message : ℕ → Value → Text
-  numbered_message m v = option_map_or (λ info. message_text info v) (slice_get messages m) []
-
   -- the name of the message with this number
   abbrev pub message_name : ℕ → Text
   message_name m = option_map_or (λ info. info.name) (slice_get messages m) []
@@ -58,7 +54,7 @@ module _ (messages : List MessageInfo) where
   -- a held request: its remote, `:` and the message with its value
   abbrev pub held_text : Held → Text
   held_text held =
-      decimal held.from ++ (codes ":" ++ numbered_message held.message held.value)
+      decimal held.from ++ (codes ":" ++ numbered_message messages held.message held.value)
 
   -- a debt to remote j: the remote, `:` and the message's name
   abbrev pub debt_text : ℕ → ℕ → Text
@@ -71,15 +67,16 @@ module _ (messages : List MessageInfo) where
 
   -- a packet: `?` and a request, `=` and a reply, `+` for an ack, `-` for a nack
   abbrev pub packet_text : Packet → Text
-  packet_text (packet.Request m v) = codes "?" ++ numbered_message m v
+  packet_text (packet.Request m v) = codes "?" ++ numbered_message messages m v
   packet_text packet.Ack = codes "+"
   packet_text packet.Nack = codes "-"
-  packet_text (packet.Reply p v) = codes "=" ++ numbered_message p v
+  packet_text (packet.Reply p v) = codes "=" ++ numbered_message messages p v
 
   -- the request in a slot, if there is one
   abbrev pub slot_texts : Option Request → List Text
   slot_texts None = []
-  slot_texts (Some request) = numbered_message request.message request.value ∷ []
+  slot_texts (Some request) =
+      numbered_message messages request.message request.value ∷ []
 
 -- the line of the home: its place, its variables, the requests that it holds in order of arrival,
 -- and its debts in the order of the remotes

@@ -5,6 +5,7 @@ ghost use Rattle.rv_base.specs.Whole.{TakesAtMost};
 ghost use Rattle.rendezvous_meaning.specs.Claims as claims_of;
 ghost use Rattle.schedule_replay.specs.Replayed.{StopsSo, WritesSo, ReplayCounts, ReplayWants};
 ghost use Rattle.schedule_replay.specs.ScheduleLimits.{schedule_limits, most_taken};
+ghost use Rattle.schedule_replay.specs.Turns.{EndsAtStart};
 ghost use Rattle.controller_table.specs.Sound.{protocol_of, table_in};
 ghost use Rattle.async_machine.specs.Standing.{config};
 ghost use Rattle.abstraction_map.specs.Abstraction.{abstraction};
@@ -149,8 +150,8 @@ fn replay_on<Q: Source, O: Sink>(
     ensures taken { TakesAtMost (most_taken schedule_limits)
         (Q.left schedule.old) (Q.left schedule.new) }
     ensures ended { result ≡ Replayed.Done → Q.ended schedule.new ≡ true }
-    ensures at_start { IfSome (run_play.halts (run_start checked.now table.now.mode n k))
-        (λ _. schedule.new ≡ schedule.old) }
+    ensures at_start { EndsAtStart run_play (run_start checked.now table.now.mode n k)
+        (schedule.new ≡ schedule.old) (O.taken out.old) (O.taken out.new) result }
 {
     match RunPlayer::new(alloc, checked, table, n, k) {
         Ok(mut player) => play_schedule(alloc, SCHEDULE_LIMITS, &mut player, schedule, out),
@@ -164,8 +165,9 @@ fn replay_on<Q: Source, O: Sink>(
 /// bytes of the schedule, which are 1,000,000 lines of 256 bytes with their LFs, and 256 bytes. The
 /// claims of the protocol are looked at before the first line is read and after each step, in the
 /// rendezvous configuration for which the one of the controllers stands. Where one is broken at the
-/// start, nothing is asked of the schedule; where there is no memory for the table or for the
-/// controllers at the start, nothing was taken or written.
+/// start, nothing is asked of the schedule, and the trace is the line that names the claim with the
+/// lines that show where all stand, whatever the schedule holds. Where there is no memory for the
+/// table or for the controllers at the start, nothing was taken or written.
 pub fn replay<Q: Source, O: Sink>(
     alloc: Global,
     checked: &Checked,
@@ -190,8 +192,8 @@ pub fn replay<Q: Source, O: Sink>(
     ensures taken { TakesAtMost (most_taken schedule_limits)
         (Q.left schedule.old) (Q.left schedule.new) }
     ensures ended { result ≡ Replayed.Done → Q.ended schedule.new ≡ true }
-    ensures at_start { IfSome (run_play.halts (run_start checked.now mode n k))
-        (λ _. schedule.new ≡ schedule.old) }
+    ensures at_start { EndsAtStart run_play (run_start checked.now mode n k)
+        (schedule.new ≡ schedule.old) (O.taken out.old) (O.taken out.new) result }
 {
     match compile(alloc, checked, mode) {
         Ok(table) => replay_on(alloc, checked, &table, n, k, schedule, out),

@@ -20,8 +20,9 @@ use async_machine::{HomePlace, Machine, Request};
 use controller_table::{Place, Table};
 use ordered_links::{Links, Packet};
 use proto_model::{
-    Appending, Body, MessageInfo, Value, Vars, append, append_number, message_text, vars_text,
+    Appending, Body, MessageInfo, Vars, append, append_number, separator, vars_text,
 };
+use schedule_replay::put_message;
 use slot_reserve::Held;
 use std::alloc::Global;
 
@@ -63,24 +64,6 @@ fn message_name(messages: &[MessageInfo], message: u8) -> &[u8]
     }
 }
 
-// Appends the message and its value.
-#[tactic(auto, using(schedule_replay::proofs::Chained::begun))]
-fn put_message_text(
-    alloc: Global,
-    info: &MessageInfo,
-    value: Value,
-    out: &mut Vec<u8>,
-    so_far: Appending,
-) -> Appending
-    ensures { Continues (model_texts.message_text info.now value) so_far out.old.items result
-        out.new.items }
-{
-    match so_far {
-        Ok(()) => message_text(alloc, info, value, out),
-        Err(failure) => Err(failure),
-    }
-}
-
 // Appends the variables of the body with these values.
 #[tactic(auto, using(schedule_replay::proofs::Chained::begun))]
 fn put_vars(
@@ -97,25 +80,6 @@ fn put_vars(
     match so_far {
         Ok(()) => vars_text(alloc, body, vars, out),
         Err(failure) => Err(failure),
-    }
-}
-
-/// Appends the message with this number, if there is one, and its value. Nothing is
-/// appended where memory ran out before.
-pub(crate) fn put_message(
-    alloc: Global,
-    messages: &[MessageInfo],
-    message: u8,
-    value: Value,
-    out: &mut Vec<u8>,
-    so_far: Appending,
-) -> Appending
-    ensures { Continues (texts.numbered_message messages.now message value)
-        so_far out.old.items result out.new.items }
-{
-    match messages.get(message as usize) {
-        Some(info) => put_message_text(alloc, info, value, out, so_far),
-        None => so_far,
     }
 }
 
@@ -160,13 +124,6 @@ fn put_remote_place(table: &Table, place: Place, out: &mut Vec<u8>, so_far: Appe
 }
 
 // ---- lists
-
-// What stands before a text of a list: nothing before the first one.
-fn separator(first: bool) -> &'static [u8]
-    ensures { result.now ≡ separator first }
-{
-    if first { b"" } else { b"," }
-}
 
 // A held request, the first of the list or a later one.
 fn put_held(

@@ -5,6 +5,7 @@ ghost use Rattle.std.specs.Option.{option_map, option_and_then};
 ghost use Rattle.proto_model.specs.Continued.{Continues};
 ghost use Rattle.proto_model.specs.Guards.{part};
 ghost use Rattle.proto_model.specs.Texts.{event_text as event_words};
+ghost use Rattle.rendezvous_meaning.specs.GivenMessage.{given_by};
 ghost use Rattle.controller_table.specs.Sound.{protocol_of};
 ghost use Rattle.slot_reserve.specs.Requests.{first_of};
 ghost use Rattle.async_machine.specs.Standing.{setting, config};
@@ -14,14 +15,13 @@ ghost use Rattle.abstraction_map.specs.Told as of_step;
 ghost use Rattle.abstraction_map.specs.declared.told.Told.TheVariants.{Is};
 ghost use Rattle.run_replay.specs.MessageBehind as behind;
 ghost use Rattle.run_replay.specs.ToldWords as words;
-ghost use Rattle.run_replay.specs.ToldWords.{given_by};
 
-use crate::state_lines::put_message;
 use abstraction_map::Told;
 use async_machine::{HomePlace, Machine, Request, Step, given, home_guard, remote_guard};
 use controller_table::{Place, Table};
 use ordered_links::Links;
-use proto_model::{Appending, Event, MessageInfo, Value, Vars, append, event_text};
+use proto_model::{Appending, Event, Value, Vars, append, event_text};
+use schedule_replay::put_given;
 use slot_reserve::Held;
 use std::alloc::Global;
 
@@ -118,24 +118,6 @@ fn message_behind<L: Links>(machine: &Machine<L>, step: Step) -> Option<(u8, Val
 }
 
 // ---- the words
-
-// Appends a space and the message with its value, where one is given.
-fn put_given(
-    alloc: Global,
-    messages: &[MessageInfo],
-    given: Option<(u8, Value)>,
-    out: &mut Vec<u8>,
-    so_far: Appending,
-) -> Appending
-    ensures { Continues (words.given_text messages.now given) so_far out.old.items result
-        out.new.items }
-{
-    let Some((message, value)) = given else {
-        return so_far;
-    };
-    let so_far = append(out, so_far, b" ");
-    put_message(alloc, messages, message, value, out, so_far)
-}
 
 // Appends the words of the event.
 #[tactic(auto, using(schedule_replay::proofs::Chained::begun))]

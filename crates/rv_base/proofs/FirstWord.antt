@@ -1,17 +1,16 @@
 -- The words of a line, byte by byte.
-use Rattle.std.proofs.Common.{◌≡◌, ℕ, ◌+◌, ◌<◌, ◌≤◌, Bool, true, false, ◌||◌, List, [], ◌∷◌, ◌++◌, length, take, drop, get_or, cond, refl, sym, ◌∙◌, ap, append-nil, append_assoc, drop-cons, arith, add-one}
+use Rattle.std.proofs.Common.{◌≡◌, ℕ, ◌+◌, ◌<◌, ◌≤◌, Bool, true, false, ◌||◌, List, [], ◌∷◌, ◌++◌}
+use Rattle.std.proofs.Common.{length, take, drop, get_or, cond, refl, sym, ◌∙◌, ap, append-nil}
+use Rattle.std.proofs.Common.{append_assoc, drop-cons, arith, add-one}
 use Rattle.std.specs.Prelude.{filter}
 use Rattle.std.proofs.lemmas.List.Elements.{filter-append}
 use Rattle.std.proofs.lemmas.Grind.{common_steps}
 use Rattle.std.proofs.lemmas.List.{take_more, drop_all, length-take}
 use Rattle.std.proofs.lemmas.List.Splits.{slice_split-cons_yes, slice_split-cons_no}
 use Rattle.std.specs.List.{slice_split, onto_first}
-use Rattle.rv_base.specs.Words.{is_blank, opens_blank, opens_comment, ends_word, before_comment, has_bytes, words}
-
--- where no comment begins, the first byte stands before it
-before_comment-cons : (b : ℕ) (bs : List ℕ) → opens_comment (b ∷ bs) ≡ false
-    → before_comment (b ∷ bs) ≡ b ∷ before_comment bs
-before_comment-cons b bs none = rw none refl
+use Rattle.rv_base.specs.Words.{is_blank, opens_blank, opens_comment, ends_word, before_comment}
+use Rattle.rv_base.specs.Words.{has_bytes, words}
+use Rattle.rv_base.proofs.BeforeComment.{before_comment-cons}
 
 blank-no_comment : (b : ℕ) (bs : List ℕ) → is_blank b ≡ true → opens_comment (b ∷ bs) ≡ false
 blank-no_comment b bs blank = grind (arith, common_steps)
@@ -24,7 +23,8 @@ words-blank b bs blank =
     ∙ ap (filter has_bytes) (slice_split-cons_yes is_blank b (before_comment bs) blank)
 
 pub words-blank_at : (line : List ℕ) (place : ℕ) → place < length line
-    → is_blank (get_or line place 0) ≡ true → words (drop place line) ≡ words (drop (place + 1) line)
+    → is_blank (get_or line place 0) ≡ true
+    → words (drop place line) ≡ words (drop (place + 1) line)
 words-blank_at line place within blank =
     let here : drop place line ≡ get_or line place 0 ∷ drop (place + 1) line =
     rw add-one (drop-cons line place 0 within) in
@@ -41,7 +41,8 @@ onto-onto_first front b [] = refl
 onto-onto_first front b (piece ∷ pieces) =
     ap (λ first. first ∷ pieces) (sym (append_assoc front (b ∷ []) piece))
 
-onto-nothing : (pieces : List (List ℕ)) → filter has_bytes (onto [] pieces) ≡ filter has_bytes pieces
+onto-nothing : (pieces : List (List ℕ)) → filter has_bytes (onto [] pieces) ≡ filter has_bytes
+    pieces
 onto-nothing [] = refl
 onto-nothing (piece ∷ pieces) = refl
 
@@ -131,7 +132,8 @@ pub words-first : (line : List ℕ) (end : ℕ)
 words-first line end so_far some within ends =
     let rest = drop end line in
     let many : 0 < length (take end line) = omega (arith, length-take end line, some, within) in
-    so_far ∙ words_onto-by (take end line) rest (opens_blank rest) (opens_comment rest) refl refl ends
+    so_far ∙ words_onto-by (take end line) rest (opens_blank rest) (opens_comment rest) refl refl
+    ends
     ∙ ap (λ front. front ++ words rest) (kept (take end line) many)
 
 -- The word ends where the line does.
@@ -150,7 +152,9 @@ pub words-empty : (line : List ℕ) → length line ≡ 0 → words line ≡ []
 words-empty [] empty = refl
 words-empty (b ∷ bs) empty = absurd (omega (arith, empty))
 
-pub words-none : (line : List ℕ) → opens_blank line ≡ false → ends_word line ≡ true → words line ≡ []
+pub words-none : (line : List ℕ) → opens_blank line ≡ false → ends_word line ≡ true
+    → words line ≡ []
 words-none line no_blank ends =
-    let opens : opens_comment line ≡ true = sym (ap (λ b. b || opens_comment line) no_blank) ∙ ends in
+    let opens : opens_comment line ≡ true = sym (ap (λ b. b || opens_comment line) no_blank)
+    ∙ ends in
     no-words line (before_comment-opens line opens)

@@ -1,4 +1,5 @@
 pub mod Moved
 pub mod DecimalText
 pub mod Lists
+pub mod BeforeComment
 pub mod FirstWord

@@ -1,6 +1,7 @@
 -- Lists: what each item gives and has, what is found in them, and where an answer comes from.
 use Rattle.std.proofs.Common.{◌≡◌, ◌≢◌, ℕ, zero, suc, ◌+◌, ◌<◌, cond, Bool, true, false, not, List}
-use Rattle.std.proofs.Common.{[], ◌∷◌, ◌++◌, Some, None, length, get_or, set, slice_get, take, drop, map}
+use Rattle.std.proofs.Common.{[], ◌∷◌, ◌++◌, Some, None, length, get_or, set, slice_get, take, drop}
+use Rattle.std.proofs.Common.{map}
 use Rattle.std.proofs.Common.{replicate, refl, sym, ap, ◌∙◌, subst, append_assoc, append-nil}
 use Rattle.std.proofs.Common.{arith, if◌then◌else◌}
 use Rattle.std.proofs.lemmas.List.{drop_all, take_all, length-map}
@@ -106,7 +107,8 @@ mapped_next give (item ∷ items) (suc i) d within =
 -- A loop over a list, which changes each item in place, did so with the items before i, and then
 -- with the one at i.
 pub mapped_in_place : {X : Type 0} (give : X → X) (items old : List X) (i : ℕ) (item d : X)
-    → i < length items → old ≡ map give (take i items) ++ drop i items → item ≡ give (get_or old i d)
+    → i < length items → old ≡ map give (take i items) ++ drop i items
+    → item ≡ give (get_or old i d)
     → set old i item ≡ map give (take (i + 1) items) ++ drop (i + 1) items
 mapped_in_place give items old i item d within so_far is =
     rw (is, so_far) (mapped_next give items i d within)

@@ -14,7 +14,7 @@
 //! - `memory`: sources and sinks in memory, which do exactly as they are told, failing calls
 //!   included.
 //! - `whole`: the two loops over the outside, a file read to its end and a text written whole.
-//! - `words`: the words of a line of text.
+//! - `words`: the words of a line of text, one after the other or by their place.
 //!
 //! The definitions that the contracts cite are in `specs/`, a file for each idea.
 #![tactic(auto)]
@@ -35,4 +35,4 @@ pub use numbers::put_number;
 pub use numerals::read_number;
 pub use outside::{ReadAnswer, Sink, Source, WriteAnswer};
 pub use whole::{FILE_LIMIT, Gathered, Wrote, read_whole, write_whole};
-pub use words::next_word;
+pub use words::{next_word, word_at};

@@ -38,13 +38,18 @@ pub trait Source {
     /// How many reads failed. The count never falls, and stops at 2^64 - 1.
     ghost faults: { Self → ℕ };
 
-    /// How many reads had no memory. The count never falls, and stops at 2^64 - 1.
+    /// How many reads had no memory. The count never falls, and stops at 2^64 - 1. It rises where
+    /// `read` answers `NoMemory`, and nowhere else: where it stays, no read had none. So whoever
+    /// takes want of memory for the end, or reads again and answers by that read, can't say that
+    /// the count stayed, also over a source that tells nothing of its bytes.
     ghost wants: { Self → ℕ };
 
     /// Whether the last read answered `End`.
     ghost ended: { Self → Bool };
 
     /// Reads at least one and at most `into.len()` bytes to the front of `into`, or says why not.
+    /// `wants` says that the count of reads without memory rises by the answer `NoMemory`, and
+    /// that after each other answer it is what it was: so it tells what was answered.
     fn read(&mut self, into: &mut [u8]) -> ReadAnswer
         requires { 0 < length into.old }
         ensures bytes { ReadMoves (left self.old) (left self.new) into.new result }
@@ -61,10 +66,15 @@ pub trait Sink {
     /// How many writes failed. The count never falls, and stops at 2^64 - 1.
     ghost faults: { Self → ℕ };
 
-    /// How many writes had no memory. The count never falls, and stops at 2^64 - 1.
+    /// How many writes had no memory. The count never falls, and stops at 2^64 - 1. It rises where
+    /// `write` answers `NoMemory`, and nowhere else: where it stays, no write had none. So whoever
+    /// takes want of memory for a piece that was taken can't say that the count stayed, also over
+    /// a sink that tells nothing of its bytes.
     ghost wants: { Self → ℕ };
 
     /// Takes at least one byte and at most all of `piece`, from its front, or says why not.
+    /// `wants` says that the count of writes without memory rises by the answer `NoMemory`, and
+    /// that after each other answer it is what it was.
     fn write(&mut self, piece: &[u8]) -> WriteAnswer
         requires { 0 < length piece.now }
         ensures bytes { WriteMoves (taken self.old) (taken self.new) piece.now result }

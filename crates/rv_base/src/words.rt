@@ -1,8 +1,8 @@
 //! The words of a line of text.
 
 ghost use Rattle.std.specs.Prelude.{◌≡◌, ◌<◌, ◌≤◌, [], ◌∷◌, false, length, take, drop};
-ghost use Rattle.std.specs.Prelude.{MatchOption};
-ghost use Rattle.rv_base.specs.Words.{ends_word, is_blank, words};
+ghost use Rattle.std.specs.Prelude.{option_copied, slice_get, MatchOption};
+ghost use Rattle.rv_base.specs.Words.{before_comment, ends_word, has_bytes, is_blank, words};
 ghost use Rattle.rv_base.specs.Words.{opens_blank};
 
 // Whether the byte parts words.
@@ -10,6 +10,31 @@ fn is_blank(byte: u8) -> bool
     ensures { result ≡ is_blank byte }
 {
     matches!(byte, b' ' | b'\t' | b'\r')
+}
+
+// What stands before the first two slashes, or all of the line.
+fn without_comment(line: &[u8]) -> &[u8]
+    ensures { result.now ≡ before_comment line.now }
+{
+    for end in 0..line.len() {
+        if line[end..].starts_with(b"//") {
+            return &line[..end];
+        }
+    }
+    line
+}
+
+/// The word at this place, counted from 0: of what stands before the first two slashes of the line,
+/// cut at each space, tab and CR into words of at least one byte. `None` exactly where the line has
+/// no word at this place. Takes no memory. Each call begins at the front of the line: whoever wants
+/// one word after the other has them from `next_word`.
+pub fn word_at(line: &[u8], place: usize) -> Option<&[u8]>
+    ensures { option_copied result ≡ slice_get (words line.now) place }
+{
+    without_comment(line)
+        .split(|byte| is_blank(*byte))
+        .filter(|word| !word.is_empty())
+        .nth(place)
 }
 
 // Whether a blank stands first, or two slashes.
@@ -73,16 +98,20 @@ mod tests {
 
     #[test]
     fn blanks_part_words_and_a_comment_ends_them(rt: HostRuntime) -> Result<(), Fail> {
+        let line = b" \tup\r 0/1/\x0b/ 2//3 4".as_slice();
         let words: [&[u8]; 3] = [b"up", b"0/1/\x0b/", b"2"];
-        let mut rest = b" \tup\r 0/1/\x0b/ 2//3 4".as_slice();
-        for word in words {
+        let mut rest = line;
+        for (place, word) in words.iter().enumerate() {
+            assert_eq!(rt; word_at(line, place), Some(*word));
             let Some((first, others)) = next_word(rest) else {
                 return Err("no word".into());
             };
-            assert_eq!(rt; first, word);
+            assert_eq!(rt; first, *word);
             rest = others;
         }
+        assert!(rt; word_at(line, 3).is_none());
         assert!(rt; next_word(rest).is_none());
+        assert!(rt; word_at(b" // up 0", 0).is_none());
         assert!(rt; next_word(b" // up 0").is_none());
         Ok(())
     }

@@ -1,6 +1,7 @@
 -- Texts that are closed lines and what follows them.
 use Rattle.std.proofs.Common.{◌≡◌, ℕ, List, [], ◌∷◌, ◌++◌, Bool, true, false, refl, sym, ◌∙◌, ap}
 use Rattle.std.proofs.Common.{append_assoc}
+use Rattle.std.proofs.lemmas.List.{append-nil}
 use Rattle.std.specs.Prelude.{◌||◌, ◌==◌}
 use Rattle.schedule_replay.specs.TextLines.{lines_of, closed_lines, has_lf, open_part, HasNoLf}
 use Rattle.schedule_replay.specs.TextLines.{joined}
@@ -52,13 +53,19 @@ closed_lines-open (b ∷ bs) none = rw (
   closed_lines-open bs (HasNoLf-rest b bs none),
 ) refl
 
-pub closed_lines-joined : (lines : List (List ℕ)) (rest : List ℕ) → EachLine lines → HasNoLf rest
-    → closed_lines (joined lines ++ rest) ≡ lines
-closed_lines-joined [] rest each none = closed_lines-open rest none
-closed_lines-joined (line ∷ lines) rest each none =
+pub closed_lines-joined_then : (lines : List (List ℕ)) (rest : List ℕ) → EachLine lines
+    → closed_lines (joined lines ++ rest) ≡ lines ++ closed_lines rest
+closed_lines-joined_then [] rest each = refl
+closed_lines-joined_then (line ∷ lines) rest each =
     ap closed_lines (append_assoc line (10 ∷ joined lines) rest)
     ∙ (closed_lines-closed line (joined lines ++ rest) each.0
-    ∙ ap (λ more. line ∷ more) (closed_lines-joined lines rest each.1 none))
+    ∙ ap (λ more. line ∷ more) (closed_lines-joined_then lines rest each.1))
+
+pub closed_lines-joined : (lines : List (List ℕ)) (rest : List ℕ) → EachLine lines → HasNoLf rest
+    → closed_lines (joined lines ++ rest) ≡ lines
+closed_lines-joined lines rest each none =
+    closed_lines-joined_then lines rest each
+    ∙ (ap (λ more. lines ++ more) (closed_lines-open rest none) ∙ append-nil lines)
 
 or-true : (b : Bool) → (b || true) ≡ true
 or-true true = refl

@@ -45,8 +45,11 @@ says-tau who g false (Some n) (Some m) e h r j s =
     let is : event.TauRemote m n ≡ e = cc (rw (h, j, r) at s) in
     let rule = number-is g n r in
     let remote = number-is who m j in
-    subst (λ (e : Event). (codes "tau" ∷ who ∷ g ∷ [] ≡ event_words e) × HasNumbers e) is
-    (ap (λ w. codes "tau" ∷ w ∷ g ∷ []) remote.0 ∙ ap (λ w. codes "tau" ∷ decimal m ∷ w ∷ []) rule.0, (remote.1, rule.1))
+    subst (λ (e : Event). (codes "tau" ∷ who ∷ g ∷ [] ≡ event_words e) × HasNumbers e) is (
+      ap (λ w. codes "tau" ∷ w ∷ g ∷ []) remote.0
+          ∙ ap (λ w. codes "tau" ∷ decimal m ∷ w ∷ []) rule.0,
+      (remote.1, rule.1),
+    )
 says-tau who g false None (Some m) e h r j s = absurd (cc (rw (h, j, r) at s))
 says-tau who g false rule None e h r j s = absurd (cc (rw (h, j) at s))
 
@@ -60,14 +63,20 @@ says-meeting name j h r true down (Some a) (Some b) (Some c) e u d x y z s =
     let home_rule = number-is h b y in
     let remote_rule = number-is r c z in
     subst (λ (e : Event). (name ∷ j ∷ h ∷ r ∷ [] ≡ event_words e)
-    × HasNumbers e) is (four (same-bytes name (codes "up") u) remote.0 home_rule.0 remote_rule.0, (remote.1, home_rule.1, remote_rule.1))
+    × HasNumbers e) is (
+      four (same-bytes name (codes "up") u) remote.0 home_rule.0 remote_rule.0,
+      (remote.1, home_rule.1, remote_rule.1),
+    )
 says-meeting name j h r false true (Some a) (Some b) (Some c) e u d x y z s =
     let is : event.Down a b c ≡ e = cc (rw (x, y, z, u, d) at s) in
     let remote = number-is j a x in
     let home_rule = number-is h b y in
     let remote_rule = number-is r c z in
     subst (λ (e : Event). (name ∷ j ∷ h ∷ r ∷ [] ≡ event_words e)
-    × HasNumbers e) is (four (same-bytes name (codes "down") d) remote.0 home_rule.0 remote_rule.0, (remote.1, home_rule.1, remote_rule.1))
+    × HasNumbers e) is (
+      four (same-bytes name (codes "down") d) remote.0 home_rule.0 remote_rule.0,
+      (remote.1, home_rule.1, remote_rule.1),
+    )
 says-meeting name j h r false false (Some a) (Some b) (Some c) e u d x y z s = absurd (cc (rw
     (x, y, z, u, d) at s))
 says-meeting name j h r up down (Some a) (Some b) None e u d x y z s = absurd (cc (rw
@@ -115,8 +124,10 @@ event_of-words (event.TauRemote j g) small = rw (
   number-decimal j small.0,
   number-decimal g small.1,
 ) refl
-event_of-words (event.Up j h r) small = rw (number-decimal j small.0, number-decimal h small.1, number-decimal r small.2) refl
-event_of-words (event.Down j h r) small = rw (number-decimal j small.0, number-decimal h small.1, number-decimal r small.2) refl
+event_of-words (event.Up j h r) small = rw
+    (number-decimal j small.0, number-decimal h small.1, number-decimal r small.2) refl
+event_of-words (event.Down j h r) small = rw
+    (number-decimal j small.0, number-decimal h small.1, number-decimal r small.2) refl
 
 -- so words that say no event are those of none
 pub says-none : (ws : List Text) → event_of ws ≡ None → (e : Event) → HasNumbers e

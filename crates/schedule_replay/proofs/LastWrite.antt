@@ -13,6 +13,7 @@ use Rattle.schedule_replay.specs.Played.{played_text, trace}
 use Rattle.schedule_replay.specs.Replayed.{answer_of, blocks_taken}
 use Rattle.schedule_replay.specs.Replayed.{WroteText, WroteFront, WritesSo, is_decided}
 use Rattle.schedule_replay.specs.Turns.{PutsFront, last_of, EndsWith, Ending, Cut, PlaysLines}
+use Rattle.schedule_replay.specs.Turns.{EndsAtStart}
 use Rattle.schedule_replay.specs.declared.limits.Limits.{Limits}
 use Rattle.schedule_replay.specs.declared.replaying.Replayed.{Replayed}
 use Rattle.schedule_replay.specs.declared.replaying.Replayed.TheVariants.{Done, BadLine}
@@ -20,12 +21,18 @@ use Rattle.schedule_replay.specs.declared.replaying.Replayed.TheVariants.{TooMan
 use Rattle.schedule_replay.specs.declared.replaying.Replayed.TheVariants.{ReadFault, WriteFault}
 use Rattle.schedule_replay.specs.declared.replaying.Replayed.TheVariants.{NoMemory}
 use Rattle.schedule_replay.proofs.ReplayEnds.{IfSome-from}
+use Rattle.schedule_replay.proofs.PlayedSoFar.{puts-none}
 
 -- from what is known of bytes that are told
 IfSome-map : (known : Option (List ℕ)) (P Q : List ℕ → Type 0)
     → ((bytes : List ℕ) → known ≡ Some bytes → P bytes → Q bytes) → IfSome known P → IfSome known Q
 IfSome-map None P Q then holds = tt
 IfSome-map (Some bytes) P Q then holds = then bytes refl holds
+
+-- what is so of each number is so of the one that is there
+of_each : (o : Option ℕ) (P : ℕ → Type 0) → ((n : ℕ) → P n) → IfSome o P
+of_each None P each = tt
+of_each (Some n) P each = each n
 
 -- what is written after bytes that are told
 wrote-told : (before now : Option (List ℕ)) (bytes text : List ℕ) → now ≡ append_known before text
@@ -49,6 +56,15 @@ module _ {State Item : Type 0} (play : Play State Item) where
   last-of state (AtLine number) = refl
   last-of state TooMany = refl
   last-of state (Halted lines claim) = refl
+
+  -- where there is no memory before the start, nothing was asked, and nothing written
+  pub unbegun-at_start : (start : State) (unasked : Type 0) → unasked → (before : Option (List ℕ))
+      → EndsAtStart play start unasked before before NoMemory
+  unbegun-at_start start unasked stays before = of_each (play.halts start) _
+      (λ claim. (
+        stays,
+        inr (inr refl, puts-none before (last_of play start (ClaimBroken claim))),
+      ))
 
   -- what is written where the machine halts at the start: nothing was kept or written before
   pub ends-at-start : (claim : ℕ) (answer result : Replayed) (start state : State)

@@ -7,7 +7,9 @@ pub mod EventWords
 pub mod ShownParts
 pub mod ClosedLines
 pub mod LinesSoFar
+pub mod LinesRead
 pub mod PlayedSoFar
 pub mod Asked
 pub mod ReplayEnds
 pub mod LastWrite
+pub mod PlayedItems

@@ -23,7 +23,7 @@ use Rattle.schedule_replay.proofs.LinesOf.{lines_of-open, lines_of-front, lines_
 use Rattle.schedule_replay.proofs.ClosedLines.{EachLine, EachLine-snoc, joined-snoc_then}
 use Rattle.schedule_replay.proofs.ClosedLines.{lines_of-joined}
 
-at-end-none : (known : Option (List ℕ)) (rest : List ℕ) → IsAtEnd known → known ≡ Some rest
+pub at-end-none : (known : Option (List ℕ)) (rest : List ℕ) → IsAtEnd known → known ≡ Some rest
     → rest ≡ []
 at-end-none None rest e told = absurd cc
 at-end-none (Some left) rest e told = cc
@@ -35,13 +35,13 @@ pub record Goes (taken : List ℕ) (r : Reading) (done : List (List ℕ)) : Type
   pub bytes : taken ≡ joined done ++ r.ahead
 
 -- bytes that are taken then
-then-took : (taken : List ℕ) (r : Reading) (done : List (List ℕ)) (front new : List ℕ)
+pub then-took : (taken : List ℕ) (r : Reading) (done : List (List ℕ)) (front new : List ℕ)
     → Goes taken r done → r.ahead ++ front ≡ new → taken ++ front ≡ joined done ++ new
 then-took taken r done front new going same =
     ap (λ bytes. bytes ++ front) going.bytes ∙ (append_assoc (joined done) r.ahead front
     ∙ ap (λ bytes. joined done ++ bytes) same)
 
-from-more : (before now after : Option (List ℕ)) (taken front : List ℕ)
+pub from-more : (before now after : Option (List ℕ)) (taken front : List ℕ)
     → before ≡ prepend_known taken now → now ≡ prepend_known front after
     → before ≡ prepend_known (taken ++ front) after
 from-more before now after taken front from took = from
@@ -73,7 +73,7 @@ closed-taken r new now after (inl (goes, took)) = took.taken
 closed-taken r new now after (inr (ended, none, at_end, some, took)) = took.taken
 
 -- what is left, where the bytes are told
-told-rest : (before now : Option (List ℕ)) (taken text : List ℕ) → before ≡ prepend_known taken now
+pub told-rest : (before now : Option (List ℕ)) (taken text : List ℕ) → before ≡ prepend_known taken now
     → before ≡ Some text → (rest : List ℕ) × (now ≡ Some rest) × (text ≡ taken ++ rest)
 told-rest before None taken text from told = absurd (cc)
 told-rest before (Some rest) taken text from told = (rest, refl, cc)
@@ -126,7 +126,7 @@ module _ (limits : Limits) where
     size = omega arith;
   }
 
-  is-going : (taken : List ℕ) (now : Option (List ℕ)) (r : Reading) (done : List (List ℕ))
+  pub is-going : (taken : List ℕ) (now : Option (List ℕ)) (r : Reading) (done : List (List ℕ))
       → Spent taken now r done → r.ended ≡ false → Goes taken r done
   is-going taken now r done (inl going) goes = going
   is-going taken now r done (inr over) goes = absurd (cc over.ended)

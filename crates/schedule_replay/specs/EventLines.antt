@@ -35,8 +35,9 @@ number word = number_of word 99999
 abbrev pub tau_event : Text → Text → Option Event
 tau_event who g =
     if bytes_eq who (codes "home")
-    then option_map (λ rule. event.TauHome rule) (number g)
-    else option_and_then (λ j. option_map (λ rule. event.TauRemote j rule) (number g)) (number who)
+    then option_map (λ guard. event.TauHome guard) (number g)
+    else option_and_then (λ j. option_map (λ guard. event.TauRemote j guard) (number g))
+    (number who)
 
 -- The event of this name, `up` or `down`, in which these two guards of the home and of this remote
 -- meet.
@@ -49,8 +50,8 @@ meeting name j h r =
 -- and of the remote's.
 abbrev pub meeting_event : Text → Text → Text → Text → Option Event
 meeting_event name j h r =
-    option_and_then (λ remote. option_and_then (λ home_rule. option_and_then (λ remote_rule.
-    meeting name remote home_rule remote_rule) (number r)) (number h)) (number j)
+    option_and_then (λ remote. option_and_then (λ home_guard. option_and_then (λ remote_guard.
+    meeting name remote home_guard remote_guard) (number r)) (number h)) (number j)
 
 -- The event that the words of a line say, if they say one.
 abbrev pub event_of : List Text → Option Event
@@ -61,6 +62,25 @@ event_of (name ∷ second ∷ third ∷ []) =
     if bytes_eq name (codes "tau") then tau_event second third else None
 event_of (name ∷ second ∷ third ∷ fourth ∷ []) = meeting_event name second third fourth
 event_of (name ∷ second ∷ third ∷ fourth ∷ w ∷ ws) = None
+
+-- The event of this name, `up` or `down`, and the first three words behind it.
+abbrev pub meeting_of_first : Text → Text → Text → List Text → Option Event
+meeting_of_first name second third [] = None
+meeting_of_first name second third (fourth ∷ ws) = meeting_event name second third fourth
+
+-- The event that the first words say, whatever words follow: the first three where the first one is
+-- `tau`, and else the first four.
+abbrev pub event_of_first : List Text → Option Event
+event_of_first [] = None
+event_of_first (name ∷ []) = None
+event_of_first (name ∷ second ∷ []) = None
+event_of_first (name ∷ second ∷ third ∷ ws) =
+    if bytes_eq name (codes "tau")
+    then tau_event second third else meeting_of_first name second third ws
+
+-- The event that the first words of a text say.
+abbrev pub leading_event : Text → Option Event
+leading_event text = event_of_first (words text)
 
 -- What a line with words says: this event, or it is malformed.
 abbrev pub said : Option Event → Meaning Event

@@ -9,3 +9,4 @@ pub mod Play
 pub mod Played
 pub mod Replayed
 pub mod Turns
+pub mod PlayedItems

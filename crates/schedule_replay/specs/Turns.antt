@@ -1,6 +1,6 @@
 -- What the steps of the loop that replays a schedule do: asking for a line, playing one, ending.
 use Rattle.std.specs.Prelude.{◌≡◌, ◌⊎◌, ℕ, ◌+◌, List, [], ◌++◌, take, Bool, false, Some, None}
-use Rattle.std.specs.Prelude.{Result, Ok, Err}
+use Rattle.std.specs.Prelude.{Result, Ok, Err, IfSome}
 use Rattle.std.specs.declared.option.Option.{Option}
 use Rattle.std.specs.Io.KnownBytes.{append_known}
 use Rattle.schedule_replay.specs.Reading.{Reading}
@@ -138,6 +138,16 @@ module _ {State Item : Type 0} (play : Play State Item) where
       ((result ≡ answer) × (now ≡ append_known before text))
       ⊎ (((result ≡ replayed.WriteFault) ⊎ (result ≡ replayed.NoMemory))
       × PutsFront before text now)
+
+  -- How a replay ends where the machine halts at the start, whatever the schedule holds and whether
+  -- it tells that or not: nothing was asked of the schedule, and the line that names the claim with
+  -- what shows the machine behind it is all that was written; or writing failed or memory lacked,
+  -- and a front of it was.
+  abbrev pub EndsAtStart : State → Type 0 → Option (List ℕ) → Option (List ℕ) → Replayed → Type 0
+  EndsAtStart start unasked before now result =
+      IfSome (play.halts start) (λ claim. unasked
+      × EndsWith (replayed.ClaimBroken claim) (last_of start (replayed.ClaimBroken claim)) before
+      now result)
 
   module _ (limits : Limits) (start : State) where
     -- The schedule ends so, in this state: what was written and what is kept are its blocks.

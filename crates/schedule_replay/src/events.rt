@@ -24,30 +24,35 @@ pub fn schedule_number(word: &[u8]) -> Option<u32>
 }
 
 // The event of `tau` and these two words.
-fn tau_event(who: &[u8], rule: &[u8]) -> Option<Event>
-    ensures { result ≡ events.tau_event who.now rule.now }
+fn tau_event(who: &[u8], guard: &[u8]) -> Option<Event>
+    ensures { result ≡ events.tau_event who.now guard.now }
 {
-    let rule = schedule_number(rule)?;
+    let guard = schedule_number(guard)?;
     if who == b"home".as_slice() {
-        return Some(Event::TauHome(rule));
+        return Some(Event::TauHome(guard));
     }
-    Some(Event::TauRemote(schedule_number(who)?, rule))
+    Some(Event::TauRemote(schedule_number(who)?, guard))
 }
 
 // The event of the name, `up` or `down`, and these three words.
-fn meeting_event(name: &[u8], remote: &[u8], home_rule: &[u8], remote_rule: &[u8]) -> Option<Event>
-    ensures { result ≡ events.meeting_event name.now remote.now home_rule.now remote_rule.now }
+fn meeting_event(
+    name: &[u8],
+    remote: &[u8],
+    home_guard: &[u8],
+    remote_guard: &[u8],
+) -> Option<Event>
+    ensures { result ≡ events.meeting_event name.now remote.now home_guard.now remote_guard.now }
 {
-    let (remote, home_rule, remote_rule) = (
+    let (remote, home_guard, remote_guard) = (
         schedule_number(remote)?,
-        schedule_number(home_rule)?,
-        schedule_number(remote_rule)?,
+        schedule_number(home_guard)?,
+        schedule_number(remote_guard)?,
     );
     if name == b"up".as_slice() {
-        return Some(Event::Up(remote, home_rule, remote_rule));
+        return Some(Event::Up(remote, home_guard, remote_guard));
     }
     if name == b"down".as_slice() {
-        return Some(Event::Down(remote, home_rule, remote_rule));
+        return Some(Event::Down(remote, home_guard, remote_guard));
     }
     None
 }
@@ -68,6 +73,22 @@ fn event_of(name: &[u8], rest: &[u8]) -> Option<Event>
     if next_word(rest).is_some() {
         return None;
     }
+    meeting_event(name, second, third, fourth)
+}
+
+/// The event that the first words of the text say, whatever follows them: the first three words
+/// where the first one is `tau`, and else the first four. `None` where they say none. Takes no
+/// memory.
+pub fn leading_event(text: &[u8]) -> Option<Event>
+    ensures { result ≡ events.leading_event text.now }
+{
+    let (name, rest) = next_word(text)?;
+    let (second, rest) = next_word(rest)?;
+    let (third, rest) = next_word(rest)?;
+    if name == b"tau".as_slice() {
+        return tau_event(second, third);
+    }
+    let (fourth, _) = next_word(rest)?;
     meeting_event(name, second, third, fourth)
 }
 

@@ -82,7 +82,7 @@ fn append(part: &mut Vec<u8>, piece: &[u8], from: usize, to: usize) -> Result<()
 }
 
 impl LineBuffer {
-    ghost use Rattle.std.specs.Prelude.{Some, None, false, List};
+    ghost use Rattle.std.specs.Prelude.{Some, None, false, List, IfOk};
     ghost use Rattle.std.specs.declared.option.Option.{Option};
     ghost use Rattle.std.specs.Io.KnownBytes.{IsAtEnd};
     ghost use Rattle.schedule_replay.specs.Reading.{nothing_read};
@@ -99,16 +99,41 @@ impl LineBuffer {
         requires { limits.line < 2 ^ 32 }
         ensures { reading_of result ≡ nothing_read limits }
     {
+        LineBuffer::over(Vec::new(alloc), limits)
+    }
+
+    // Stands before line 1, with this room for lines.
+    fn over(part: Vec<u8>, limits: Limits) -> LineBuffer
+        requires small { limits.line < 2 ^ 32 }
+        requires none { part.items ≡ [] }
+        ensures { reading_of result ≡ nothing_read limits }
+    {
         LineBuffer {
             limits,
             piece: [0; 256],
             start: 0,
             end: 0,
-            part: Vec::new(alloc),
+            part,
             held: Held::Nothing,
             got: 0,
             ended: false,
         }
+    }
+
+    /// Stands before line 1, with room for the longest line.
+    pub(crate) fn with_room(alloc: Global, limits: Limits) -> Result<LineBuffer, NoMemory>
+        requires { limits.line < 2 ^ 32 }
+        ensures { IfOk result (λ buffer. reading_of buffer ≡ nothing_read limits) }
+    {
+        let part = Vec::with_capacity(alloc, limits.line)?;
+        Ok(LineBuffer::over(part, limits))
+    }
+
+    /// Whether the source was found at its end.
+    pub(crate) fn ended(&self) -> bool
+        ensures { result ≡ self.now.ended }
+    {
+        self.ended
     }
 
     /// The last line got, without its LF. Empty before line 1, and after a call that gave none.

@@ -4,7 +4,7 @@ ghost use Rattle.std.specs.Prelude.{◌<◌, ◌^◌};
 
 use crate::limits::Limits;
 use crate::line_buffer::LineBuffer;
-use rv_base::Source;
+use rv_base::{NoMemory, Source};
 use std::alloc::Global;
 use std::marker::Model;
 
@@ -43,7 +43,7 @@ impl Model for Lines {
 }
 
 impl Lines {
-    ghost use Rattle.std.specs.Prelude.{◌≡◌, true, false};
+    ghost use Rattle.std.specs.Prelude.{◌≡◌, true, false, IfOk};
     ghost use Rattle.rv_base.specs.Outside.{RisesWhere, MayRise};
     ghost use Rattle.schedule_replay.specs.Reading.{nothing_read};
     ghost use Rattle.schedule_replay.specs.NextLine.{NextMoves, AtHandMoves, next_failed};
@@ -57,6 +57,24 @@ impl Lines {
         Lines {
             buffer: LineBuffer::new(alloc, limits),
         }
+    }
+
+    /// Stands before line 1 of a source, whose lines are to keep these limits, with room for the
+    /// longest line.
+    pub fn with_room(alloc: Global, limits: Limits) -> Result<Lines, NoMemory>
+        requires { limits.line < 2 ^ 32 }
+        ensures { IfOk result (λ lines. lines ≡ nothing_read limits) }
+    {
+        let buffer = LineBuffer::with_room(alloc, limits)?;
+        Ok(Lines { buffer })
+    }
+
+    /// Whether the source was found at its end. Where a line was got, it is the last one then, and
+    /// no LF ends it.
+    pub fn ended(&self) -> bool
+        ensures { result ≡ self.now.ended }
+    {
+        self.buffer.ended()
     }
 
     /// The last line got, without its LF. Empty before line 1, and after a call that gave none.

@@ -13,6 +13,7 @@ ghost use Rattle.schedule_replay.specs.Turns as turns;
 ghost use Rattle.schedule_replay.specs.Turns.{AskMoves, AskWrites, ask_read_failed};
 ghost use Rattle.schedule_replay.specs.Turns.{ask_write_failed};
 ghost use Rattle.schedule_replay.specs.Turns.{ask_wants, PlaysLine, PlaysLines, last_of, EndsWith};
+ghost use Rattle.schedule_replay.specs.Turns.{EndsAtStart};
 
 use crate::limits::Limits;
 use crate::lines::{Lines, NextLine};
@@ -253,8 +254,9 @@ fn end<P: Player, O: Sink>(
 ///
 /// Whenever a read of the schedule is asked for, the blocks of all lines that were taken whole are
 /// written, in one go. The answer says how the replay ended, and with it what was taken of the
-/// schedule and what was written. Nothing is asked of the schedule where a claim is broken at the
-/// start. Either count of calls without memory stays unless the answer is `NoMemory`.
+/// schedule and what was written. Where a claim is broken at the start, nothing is asked of the
+/// schedule, and the trace is the same whatever it holds. Either count of calls without memory
+/// stays unless the answer is `NoMemory`.
 ///
 /// No more is kept than one line, one piece of the schedule, and the blocks of the lines that end
 /// in it.
@@ -277,10 +279,8 @@ pub fn play_schedule<P: Player, Q: Source, O: Sink>(
         (O.wants out.old) (O.wants out.new) result }
     ensures taken { TakesAtMost (most_taken limits) (Q.left schedule.old) (Q.left schedule.new) }
     ensures ended { result ≡ Replayed.Done → Q.ended schedule.new ≡ true }
-    ensures at_start { IfSome (P.play.halts player.old) (λ claim. (schedule.new ≡ schedule.old)
-        × EndsWith P.play (Replayed.ClaimBroken claim)
-        (last_of P.play player.old (Replayed.ClaimBroken claim))
-        (O.taken out.old) (O.taken out.new) result) }
+    ensures at_start { EndsAtStart P.play player.old (schedule.new ≡ schedule.old)
+        (O.taken out.old) (O.taken out.new) result }
 {
     let mut kept = Vec::new(alloc);
     let answer = play_lines(alloc, limits, player, schedule, &mut kept, out);

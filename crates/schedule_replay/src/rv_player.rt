@@ -5,6 +5,7 @@ ghost use Rattle.rv_base.specs.Whole.{TakesAtMost};
 ghost use Rattle.schedule_replay.specs.Replayed.{StopsSo, WritesSo, ReplayCounts, ReplayWants};
 ghost use Rattle.schedule_replay.specs.ScheduleLimits.{schedule_limits, most_taken};
 ghost use Rattle.schedule_replay.specs.RvPlay.{rv_play, rv_watched};
+ghost use Rattle.schedule_replay.specs.Turns.{EndsAtStart};
 
 use crate::events::read_event_line;
 use crate::limits::SCHEDULE_LIMITS;
@@ -81,8 +82,10 @@ impl<'a> Player for RvPlayer<'a> {
 /// trace. The answer says how the replay ended, and with it what was taken of the schedule and what
 /// was written: at most 257,000,256 bytes of the schedule, which are 1,000,000 lines of 256 bytes
 /// with their LFs, and 256 bytes. The claims of the protocol are looked at before the first line is
-/// read and after each event. Where one is broken at the start, nothing is asked of the schedule;
-/// where there is no memory for the remotes at the start, nothing was taken or written.
+/// read and after each event. Where one is broken at the start, nothing is asked of the schedule,
+/// and the trace is the line that names the claim with the lines that show where all stand,
+/// whatever the schedule holds. Where there is no memory for the remotes at the start, nothing was
+/// taken or written.
 pub fn replay_events<Q: Source, O: Sink>(
     alloc: Global,
     checked: &Checked,
@@ -104,8 +107,8 @@ pub fn replay_events<Q: Source, O: Sink>(
     ensures taken { TakesAtMost (most_taken schedule_limits)
         (Q.left schedule.old) (Q.left schedule.new) }
     ensures ended { result ≡ Replayed.Done → Q.ended schedule.new ≡ true }
-    ensures at_start { IfSome (rv_play.halts (rv_watched checked.now n))
-        (λ _. schedule.new ≡ schedule.old) }
+    ensures at_start { EndsAtStart rv_play (rv_watched checked.now n) (schedule.new ≡ schedule.old)
+        (O.taken out.old) (O.taken out.new) result }
 {
     match RvPlayer::new(alloc, checked, n) {
         Ok(mut player) => play_schedule(alloc, SCHEDULE_LIMITS, &mut player, schedule, out),

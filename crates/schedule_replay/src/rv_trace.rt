@@ -15,8 +15,9 @@ use rendezvous_meaning::RvMachine;
 use rv_base::NoMemory;
 use std::alloc::Global;
 
-// Appends the rendezvous line of the home.
-fn put_home(alloc: Global, machine: &RvMachine, out: &mut Vec<u8>) -> Result<(), NoMemory>
+/// Appends the rendezvous line of the home, with its LF. After `NoMemory` the vector is as before
+/// followed by a front of the line.
+pub fn put_home_line(alloc: Global, machine: &RvMachine, out: &mut Vec<u8>) -> Result<(), NoMemory>
     ensures { OnOk result (out.new.items ≡ out.old.items ++ texts.home_line machine.now) }
 {
     let home = &machine.config().home;
@@ -31,8 +32,14 @@ fn remote_at<'m>(machine: &'m RvMachine, j: u32) -> Option<&'m Part>
     machine.config().remotes.as_slice().get(j as usize)
 }
 
-// Appends the rendezvous line of remote j, if there is one.
-fn put_remote(alloc: Global, machine: &RvMachine, j: u32, out: &mut Vec<u8>) -> Result<(), NoMemory>
+/// Appends the rendezvous line of remote j, with its LF, if there is such a remote. After
+/// `NoMemory` the vector is as before followed by a front of the line.
+pub fn put_remote_line(
+    alloc: Global,
+    machine: &RvMachine,
+    j: u32,
+    out: &mut Vec<u8>,
+) -> Result<(), NoMemory>
     ensures { OnOk result (out.new.items ≡ out.old.items ++ texts.remote_line machine.now j) }
 {
     let Some(part) = remote_at(machine, j) else {
@@ -123,11 +130,11 @@ fn put_lines_after(
         ++ texts.lines_after machine.now event) }
 {
     match event {
-        Event::TauHome(_) => put_home(alloc, machine, out),
-        Event::TauRemote(j, _) => put_remote(alloc, machine, j, out),
+        Event::TauHome(_) => put_home_line(alloc, machine, out),
+        Event::TauRemote(j, _) => put_remote_line(alloc, machine, j, out),
         Event::Up(j, _, _) | Event::Down(j, _, _) => {
-            put_home(alloc, machine, out)?;
-            put_remote(alloc, machine, j, out)
+            put_home_line(alloc, machine, out)?;
+            put_remote_line(alloc, machine, j, out)
         }
     }
 }

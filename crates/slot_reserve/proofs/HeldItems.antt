@@ -64,7 +64,8 @@ length-without_first from (other ∷ held) request e =
       | false ↦ λ is.
           let rest : length (without_first from held) + 1 ≡ length held =
           length-without_first from held request (rw is at e) in
-          let count : suc (length (without_first from held)) + 1 ≡ suc (length held) = omega arith in
+          let count : suc (length (without_first from held)) + 1 ≡ suc (length held) = omega
+          arith in
           rw is count
     ] refl
 

@@ -24,7 +24,8 @@ first_of-none from (request ∷ held) none =
 pub has_none : (from : ℕ) (held : List Held) → first_of from held ≡ None → HasNone from held
 has_none from [] nowhere = tt
 has_none from (request ∷ held) nowhere =
-    elim (is_sent_by from request) as (λ b. is_sent_by from request ≡ b → HasNone from (request ∷ held)) [
+    elim (is_sent_by from request) as (λ b. is_sent_by from request ≡ b
+    → HasNone from (request ∷ held)) [
       | true ↦ λ e. absurd (none-some _ (sym (rw e at nowhere)))
       | false ↦ λ e. (sent-by_another from request e, has_none from held (rw e at nowhere))
     ] refl

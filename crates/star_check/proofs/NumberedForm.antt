@@ -27,11 +27,15 @@ body_seen : (c : code.Scope) (s : Side) (messages : List Message) (p : Process)
     → numbered_process c.messages.now (process_seen c) ≡ numbered_process messages p
 body_seen c s messages p own =
     ap
-    (λ t. numbered_process t.messages (record { vars = t.vars; start = c.start.now; states = t.states })) own.seen
+    (λ t. numbered_process t.messages
+    (record { vars = t.vars; start = c.start.now; states = t.states })) own.seen
     ∙ ap
-    (λ n. numbered_process messages (record { vars = p.vars; start = n; states = p.states })) own.start_name
+    (λ n. numbered_process messages (record { vars = p.vars; start = n; states = p.states }))
+    own.start_name
 
-module _ (p : Protocol) (home remote : code.Scope) (own_home : IsScopeOf home side.Home p.messages p.home) (own_remote : IsScopeOf remote side.Remote p.messages p.remote) where
+module _ (p : Protocol) (home remote : code.Scope)
+    (own_home : IsScopeOf home side.Home p.messages p.home)
+    (own_remote : IsScopeOf remote side.Remote p.messages p.remote) where
   pub home_numberable : IsWellFormed p → IsNumberable home
   home_numberable well_formed =
       let clean = clean_parts p well_formed in
@@ -63,15 +67,29 @@ module _ (p : Protocol) (home remote : code.Scope) (own_home : IsScopeOf home si
   made-protocol name messages home_body remote_body is_name are_messages is_home is_remote n made =
       made
       ∙ ap
-      (λ t. let n : NumberedProtocol = record { name = t; messages = messages; home = home_body; remote = remote_body } in n) is_name
+      (λ t. let n : NumberedProtocol = record
+      { name = t; messages = messages; home = home_body; remote = remote_body } in n) is_name
       ∙ ap
-      (λ t. let n : NumberedProtocol = record { name = p.name; messages = t; home = home_body; remote = remote_body } in n)
+      (λ t. let n : NumberedProtocol = record
+      { name = p.name; messages = t; home = home_body; remote = remote_body } in n)
       (are_messages ∙ ap (λ t. map numbered_message t.messages) own_home.seen)
       ∙ ap
-      (λ t. let n : NumberedProtocol = record { name = p.name; messages = map numbered_message p.messages; home = t; remote = remote_body } in n)
+      (λ t. let n : NumberedProtocol = record {
+        name = p.name;
+        messages = map numbered_message p.messages;
+        home = t;
+        remote
+            = remote_body;
+      } in n)
       (is_home ∙ body_seen home side.Home p.messages p.home own_home)
       ∙ ap
-      (λ t. let n : NumberedProtocol = record { name = p.name; messages = map numbered_message p.messages; home = numbered_process p.messages p.home; remote = t } in n)
+      (λ t. let n : NumberedProtocol = record {
+        name = p.name;
+        messages = map numbered_message p.messages;
+        home = numbered_process
+            p.messages p.home;
+        remote = t;
+      } in n)
       (is_remote ∙ body_seen remote side.Remote p.messages p.remote own_remote)
 
   pub made-numbered : (n : NumberedProtocol) (claims : List NumberedClaim) → n ≡ numbered_protocol p
@@ -80,7 +98,8 @@ module _ (p : Protocol) (home remote : code.Scope) (own_home : IsScopeOf home si
       → checked ≡ numbered p
   made-numbered n claims is_protocol are_claims checked made =
       made
-      ∙ ap (λ t. let c : CheckedProtocol = record { protocol = t; claims = claims } in c) is_protocol
+      ∙ ap (λ t. let c : CheckedProtocol = record { protocol = t; claims = claims } in c)
+      is_protocol
       ∙ ap
       (λ t. let c : CheckedProtocol = record { protocol = numbered_protocol p; claims = t } in c)
       (are_claims ∙ ap (λ t. map (numbered_claim t.states) p.claims) own_remote.seen)

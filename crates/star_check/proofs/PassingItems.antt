@@ -44,7 +44,8 @@ module _ (name : Text) (messages : List Message) (home remote : code.Scope) (cla
         → first_of_all ≡ first (faults_from (word + 1) (process_items home ++ behind_home))
     from_home own passed word count =
         from_messages own
-        ∙ first-pass_to 1 word message_items [] (process_items home ++ behind_home) passed count refl
+        ∙ first-pass_to 1 word message_items [] (process_items home ++ behind_home) passed count
+        refl
 
     -- the word `remote` stands behind the home, whose items count from n
     pub from_remote : (n : ℕ)

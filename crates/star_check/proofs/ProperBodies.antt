@@ -95,7 +95,8 @@ outputs_same : (messages : List Message) (vars : List Var) (states : List State)
 outputs_same messages vars states [] = refl
 outputs_same messages vars states (g ∷ guards) =
     ap
-    (λ b. b || list_any (λ r. is_output_kind r.kind) (map (numbered_guard messages vars states) guards))
+    (λ b. b || list_any (λ r. is_output_kind r.kind)
+    (map (numbered_guard messages vars states) guards))
     (output_same messages vars g.kind)
     ∙ ap (λ b. is_output_action g.kind || b) (outputs_same messages vars states guards)
 
@@ -155,7 +156,8 @@ proper_state : (s : Scope) (place : ℕ) (state : State) → CleanState s place 
     (numbered_state s.messages s.vars s.states state)
 proper_state s place state clean =
     let each : (k : ℕ) (g : Guard) → slice_get state.guards k ≡ Some g → IsClean s k g =
-    λ k g e. guard_clean s k g (rw zero-add at (codes_at (guard_codes s) 0 state.guards clean.guards k g e)) in
+    λ k g e. guard_clean s k g
+    (rw zero-add at (codes_at (guard_codes s) 0 state.guards clean.guards k g e)) in
     let at_most : length state.guards ≤ 16 =
     few 16 state.guards (λ k g e. below 16 k (or_parts (nat_le 16 k) _ (each k g e).few).0) in
     let own =
@@ -167,7 +169,8 @@ proper_state s place state clean =
           (λ k g e. small_rule s k g (each k g e).few);
       few_rules = rw (length-map state.guards (numbered_guard s.messages s.vars s.states)) at_most;
       rules = AllByRecursion-map
-          (IsProperRule s.side (map numbered_message s.messages) (infos s.vars) (length (map (numbered_state s.messages s.vars s.states) s.states)))
+          (IsProperRule s.side (map numbered_message s.messages) (infos s.vars)
+          (length (map (numbered_state s.messages s.vars s.states) s.states)))
           (numbered_guard s.messages s.vars s.states) state.guards
           (λ k g e. proper_rule s k g (each k g e));
       active = active_form s state.guards
@@ -195,40 +198,42 @@ clean_process s messages p all =
     }
 
 -- what the items of the process at each place say
-module _ (s : Side) (messages : List Message) (p : Process) (clean : CleanProcess s messages p) where
-  pub var_at : (k : ℕ) (v : Var) → slice_get p.vars k ≡ Some v → var_codes p.vars k v ≡ []
-  var_at k v e = rw zero-add at (codes_at (var_codes p.vars) 0 p.vars clean.vars k v e)
+module _ (s : Side) (messages : List Message) (p : Process) (clean : CleanProcess s messages p)
+  where
+    pub var_at : (k : ℕ) (v : Var) → slice_get p.vars k ≡ Some v → var_codes p.vars k v ≡ []
+    var_at k v e = rw zero-add at (codes_at (var_codes p.vars) 0 p.vars clean.vars k v e)
 
-  pub clean_state_at : (k : ℕ) (t : State) → slice_get p.states k ≡ Some t
-      → CleanState (scope_of s messages p) k t
-  clean_state_at k t e =
-      rw zero-add at (state_at (scope_of s messages p) 0 p.states clean.states k t e)
+    pub clean_state_at : (k : ℕ) (t : State) → slice_get p.states k ≡ Some t
+        → CleanState (scope_of s messages p) k t
+    clean_state_at k t e =
+        rw zero-add at (state_at (scope_of s messages p) 0 p.states clean.states k t e)
 
-  pub few_vars : length p.vars ≤ 16
-  few_vars =
-      few 16 p.vars (λ k v e. declaration_below 16 (var_names p.vars) k v.name _ (var_at k v e))
+    pub few_vars : length p.vars ≤ 16
+    few_vars =
+        few 16 p.vars (λ k v e. declaration_below 16 (var_names p.vars) k v.name _ (var_at k v e))
 
-  pub few_states : length p.states ≤ 64
-  few_states =
-      few 64 p.states
-      (λ k t e. declaration_below 64 (state_names p.states) k t.name _ (clean_state_at k t e).own)
+    pub few_states : length p.states ≤ 64
+    few_states =
+        few 64 p.states
+        (λ k t e. declaration_below 64 (state_names p.states) k t.name _ (clean_state_at k t e).own)
 
-  pub proper_body : IsProperBody s (map numbered_message messages) (numbered_process messages p)
-  proper_body =
-      let known : is_declared p.start (state_names p.states) ≡ true =
-      not-false (is_declared p.start (state_names p.states))
-      (last_test_fails _ unknown clean.start) in
-      record {
-        few_vars = rw (length-map p.vars numbered_declaration) few_vars;
-        few_states = rw (length-map p.states (numbered_state messages p.vars p.states)) few_states;
-        short_names = AllByRecursion-map (λ v. IsShortName v.name) numbered_declaration p.vars
-            (λ k v e. short_declared 16 (var_names p.vars) k v.name _ (var_at k v e));
-        vars = AllByRecursion-map IsProperVar numbered_declaration p.vars
-            (λ k v e. proper_var p.vars k v (var_at k v e));
-        start = place_in_range (λ t. t.name)
-            (numbered_state messages p.vars p.states) p.states p.start known;
-        states = AllByRecursion-map
-            (IsProperState s (map numbered_message messages) (infos p.vars) (length (map (numbered_state messages p.vars p.states) p.states)))
-            (numbered_state messages p.vars p.states) p.states
-            (λ k t e. proper_state (scope_of s messages p) k t (clean_state_at k t e));
-      }
+    pub proper_body : IsProperBody s (map numbered_message messages) (numbered_process messages p)
+    proper_body =
+        let known : is_declared p.start (state_names p.states) ≡ true =
+        not-false (is_declared p.start (state_names p.states))
+        (last_test_fails _ unknown clean.start) in
+        record {
+          few_vars = rw (length-map p.vars numbered_declaration) few_vars;
+          few_states = rw (length-map p.states (numbered_state messages p.vars p.states)) few_states;
+          short_names = AllByRecursion-map (λ v. IsShortName v.name) numbered_declaration p.vars
+              (λ k v e. short_declared 16 (var_names p.vars) k v.name _ (var_at k v e));
+          vars = AllByRecursion-map IsProperVar numbered_declaration p.vars
+              (λ k v e. proper_var p.vars k v (var_at k v e));
+          start = place_in_range (λ t. t.name)
+              (numbered_state messages p.vars p.states) p.states p.start known;
+          states = AllByRecursion-map
+              (IsProperState s (map numbered_message messages) (infos p.vars)
+              (length (map (numbered_state messages p.vars p.states) p.states)))
+              (numbered_state messages p.vars p.states) p.states
+              (λ k t e. proper_state (scope_of s messages p) k t (clean_state_at k t e));
+        }

@@ -42,7 +42,8 @@ small : (most : ℕ) → nat_lt 64 most ≡ false → most ≤ 64
 small most e = grind arith
 
 pub proper_claim : {B : Type 0} (form : State → B) (states : List State) (place : ℕ) (c : Claim)
-    → IsCleanClaim states place c → IsProperClaim (length (map form states)) (numbered_claim states c)
+    → IsCleanClaim states place c
+    → IsProperClaim (length (map form states)) (numbered_claim states c)
 proper_claim form states place (claim.AtMost most names) clean =
     (small most clean.fits, are_states states form names clean.known)
 proper_claim form states place (claim.Apart x y) clean =

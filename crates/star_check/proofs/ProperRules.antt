@@ -88,8 +88,13 @@ meaning_parts true s g more e =
     let own = parts_empty (meaning_codes true s g) more e in
     let types = test_fails (not (guard_agrees s.side s.messages s.vars g)) wrong_type _ own.0 in
     let way : not (is_directed s.side s.messages g.kind) ≡ false =
-    last_test_fails (not (is_directed s.side s.messages g.kind)) wrong_direction types.1 in
-    (refl, not-false (guard_agrees s.side s.messages s.vars g) types.0, not-false (is_directed s.side s.messages g.kind) way, own.1)
+    last_test_fails (not (is_directed s.side s.messages g.kind)) wrong_direction types.1 in (
+      refl,
+      not-false (guard_agrees s.side s.messages s.vars g) types.0,
+      not-false
+          (is_directed s.side s.messages g.kind) way,
+      own.1,
+    )
 
 pub guard_clean : (s : Scope) (place : ℕ) (g : Guard) → guard_codes s place g ≡ []
     → IsClean s place g

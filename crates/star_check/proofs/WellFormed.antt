@@ -79,7 +79,10 @@ well_formed-proper p well_formed =
           (λ k m e. name k m.name _ (clean.messages k m e));
       few_messages = rw (length-map p.messages numbered_message) (few_messages p clean);
       messages = AllByRecursion-map (λ m. IsProperCarry m.carries) numbered_message p.messages
-          (λ k m e. proper_carry m.carries (last_test_fails _ bad_number (parts_empty (declaration_codes 64 (message_names p.messages) k m.name) _ (clean.messages k m e)).1));
+          (λ k m e. proper_carry m.carries
+          (last_test_fails _ bad_number
+          (parts_empty (declaration_codes 64 (message_names p.messages) k m.name) _
+          (clean.messages k m e)).1));
       home = proper_body side.Home p.messages p.home clean.home;
       remote = proper_body side.Remote p.messages p.remote clean.remote;
     }

@@ -25,10 +25,18 @@ messages-no_float : (all : List MessageInfo) (replies : List (Option ℕ)) (plac
     → items_have_float (items_of (map_from (message_data all replies) place messages)) ≡ false
 messages-no_float all replies place [] = refl
 messages-no_float all replies place (info ∷ messages) =
-    rw
-    (reply-no_float all (reply_at replies place), messages-no_float all replies (place + 1) messages) refl
+    rw (
+      reply-no_float all (reply_at replies place),
+      messages-no_float all replies (place + 1)
+          messages,
+    ) refl
 
 pub table-no_float : (table : Tabled) → has_float (table_data table) ≡ false
 table-no_float table =
-    rw
-    (rows-no_float table.messages table.home.body table.home.rows, messages-no_float table.messages table.replies 0 table.messages, rows-no_float table.messages table.remote.body table.remote.rows) refl
+    rw (
+      rows-no_float table.messages table.home.body table.home.rows,
+      messages-no_float table.messages
+          table.replies 0 table.messages,
+      rows-no_float table.messages table.remote.body
+          table.remote.rows,
+    ) refl

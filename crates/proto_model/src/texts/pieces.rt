@@ -11,8 +11,9 @@ use crate::protocol::Carry;
 use crate::rendezvous::{Event, Part};
 use crate::values::{Vars, has_number};
 
-// What stands before a member of a set.
-fn separator(first: bool) -> &'static [u8]
+/// What stands before an item of a list, as a member of a set: nothing before the first one, and a
+/// comma before each later one.
+pub fn separator(first: bool) -> &'static [u8]
     ensures { result.now ≡ texts.separator first }
 {
     if first { b"" } else { b"," }

@@ -30,7 +30,8 @@ loop-place-preserved g c =
     let machine = c.args.machine.now in
     let protocol = protocol_of machine.table in
     let view_of = view_at protocol (config g.L.Links.lists machine) in
-    let within : c.loop-place.place < length machine.remotes = rw c.n-place-end.ensures at c.loop-place-test.true in
+    let within : c.loop-place.place < length machine.remotes = rw c.n-place-end.ensures at
+    c.loop-place-test.true in
     let room = c.loop-place.invariant.room in
     record {
       room = subst (λ (n : ℕ). length machine.remotes ≤ n)

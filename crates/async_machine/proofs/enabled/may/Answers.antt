@@ -12,7 +12,7 @@ use Rattle.async_shape.specs.declared.config.RemoteState.{RemoteState}
 use Rattle.async_shape.specs.declared.step.Step.{Step}
 use Rattle.async_machine.specs.Moves.{remote_did}
 use Rattle.async_machine.specs.Arriving.{arriving_on}
-use Rattle.async_machine.specs.Standing.{setting_of, standing_so}
+use Rattle.async_machine.specs.Standing.{setting_of, config_of}
 use Rattle.async_machine.proofs.Enabling.{is_some-map, remote-is_some}
 use Rattle.async_machine.proofs.enabled.may.Goals as goal
 
@@ -21,7 +21,7 @@ returns-in-RemoteTau c links arrives =
     let j = c.in-RemoteTau.j in
     let remote = c.index-remotes-j.result in
     let setting = setting_of c.args.table.now c.args.slots.now.size in
-    let before = standing_so c.args.home.now c.args.slots.now.held c.args.remotes.now links in
+    let before = config_of c.args.home.now c.args.slots.now.held c.args.remotes.now links in
     let below : j < length c.args.remotes.now = rw c.in-RemoteTau.is at c.requires.there in
     remote-is_some _ _ (λ did. remote_did j did.0 did.1) before None j remote
     (λ (r : RemoteState). remote_tau setting r c.in-RemoteTau.g) _
@@ -34,7 +34,7 @@ returns-in-RemoteSend c links arrives =
     let j = c.in-RemoteSend.j in
     let remote = c.index-remotes-j-in-RemoteSend.result in
     let setting = setting_of c.args.table.now c.args.slots.now.size in
-    let before = standing_so c.args.home.now c.args.slots.now.held c.args.remotes.now links in
+    let before = config_of c.args.home.now c.args.slots.now.held c.args.remotes.now links in
     let below : j < length c.args.remotes.now = rw c.in-RemoteSend.is at c.requires.there in
     remote-is_some _ _ (λ did. remote_did j did.0 did.1) before None j remote
     (remote_send setting j) _
@@ -47,7 +47,7 @@ returns-in-RemoteAnswer c links arrives =
     let j = c.in-RemoteAnswer.j in
     let remote = c.index-remotes-j-in-RemoteAnswer.result in
     let setting = setting_of c.args.table.now c.args.slots.now.size in
-    let before = standing_so c.args.home.now c.args.slots.now.held c.args.remotes.now links in
+    let before = config_of c.args.home.now c.args.slots.now.held c.args.remotes.now links in
     let below : j < length c.args.remotes.now = rw c.in-RemoteAnswer.is at c.requires.there in
     remote-is_some _ _ (λ did. remote_did j did.0 did.1) before None j remote
     (remote_answer setting j) _
@@ -60,7 +60,7 @@ returns-in-RemoteReply c links arrives =
     let j = c.in-RemoteReply.j in
     let remote = c.index-remotes-j-in-RemoteReply.result in
     let setting = setting_of c.args.table.now c.args.slots.now.size in
-    let before = standing_so c.args.home.now c.args.slots.now.held c.args.remotes.now links in
+    let before = config_of c.args.home.now c.args.slots.now.held c.args.remotes.now links in
     let below : j < length c.args.remotes.now = rw c.in-RemoteReply.is at c.requires.there in
     remote-is_some _ _ (λ did. remote_did j did.0 did.1) before None j remote
     (remote_reply setting j) _
@@ -75,7 +75,7 @@ returns-in-Up c links arrives =
     let home = c.args.home.now in
     let held = c.args.slots.now.held in
     let remotes = c.args.remotes.now in
-    let before = standing_so home held remotes links in
+    let before = config_of home held remotes links in
     let link = Some (Up j) in
     let first : arrival before link ≡ c.args.arrived =
     ap (arriving_on links) (sym c.in-Up.is) ∙ arrives in

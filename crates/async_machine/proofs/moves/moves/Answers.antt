@@ -9,14 +9,14 @@ use Rattle.async_shape.specs.RemoteSteps.{remote_reply, down}
 use Rattle.async_shape.specs.Site.{site, arrival_link}
 use Rattle.async_shape.specs.declared.step.Step.{Step}
 use Rattle.async_machine.specs.Arriving.{arriving_on}
-use Rattle.async_machine.specs.Standing.{setting_of, standing_so}
+use Rattle.async_machine.specs.Standing.{setting_of, config_of}
 use Rattle.async_machine.proofs.Moved.{remote-StepMoves}
 use Rattle.async_machine.proofs.moves.moves.Goals as goal
 
 pub returns-in-RemoteTau-clause-value : goal.returns-in-RemoteTau-clause-value
 returns-in-RemoteTau-clause-value c links arrives =
     let setting = setting_of c.args.table.now c.args.slots.now.size in
-    let before = standing_so c.args.home.now c.args.slots.now.held c.args.remotes.now links in
+    let before = config_of c.args.home.now c.args.slots.now.held c.args.remotes.now links in
     remote-StepMoves c.done.result before None c.in-RemoteTau.j c.remote_at.result
     (λ remote. remote_tau setting remote c.in-RemoteTau.g) c.done.new.remotes _ _
     c.remote_at.ensures (c.remote_tau-did.ensures c.args.slots.now.size c.in-RemoteTau.j)
@@ -26,7 +26,7 @@ returns-in-RemoteTau-clause-value c links arrives =
 pub returns-in-RemoteSend-clause-value : goal.returns-in-RemoteSend-clause-value
 returns-in-RemoteSend-clause-value c links arrives =
     let setting = setting_of c.args.table.now c.args.slots.now.size in
-    let before = standing_so c.args.home.now c.args.slots.now.held c.args.remotes.now links in
+    let before = config_of c.args.home.now c.args.slots.now.held c.args.remotes.now links in
     remote-StepMoves c.done-in-RemoteSend.result before None c.in-RemoteSend.j
     c.remote_at-in-RemoteSend.result (remote_send setting c.in-RemoteSend.j)
     c.done-in-RemoteSend.new.remotes _ _ c.remote_at-in-RemoteSend.ensures
@@ -37,7 +37,7 @@ returns-in-RemoteSend-clause-value c links arrives =
 pub returns-in-RemoteAnswer-clause-value : goal.returns-in-RemoteAnswer-clause-value
 returns-in-RemoteAnswer-clause-value c links arrives =
     let setting = setting_of c.args.table.now c.args.slots.now.size in
-    let before = standing_so c.args.home.now c.args.slots.now.held c.args.remotes.now links in
+    let before = config_of c.args.home.now c.args.slots.now.held c.args.remotes.now links in
     remote-StepMoves c.done-in-RemoteAnswer.result before None c.in-RemoteAnswer.j
     c.remote_at-in-RemoteAnswer.result (remote_answer setting c.in-RemoteAnswer.j)
     c.done-in-RemoteAnswer.new.remotes _ _ c.remote_at-in-RemoteAnswer.ensures
@@ -48,7 +48,7 @@ returns-in-RemoteAnswer-clause-value c links arrives =
 pub returns-in-RemoteReply-clause-value : goal.returns-in-RemoteReply-clause-value
 returns-in-RemoteReply-clause-value c links arrives =
     let setting = setting_of c.args.table.now c.args.slots.now.size in
-    let before = standing_so c.args.home.now c.args.slots.now.held c.args.remotes.now links in
+    let before = config_of c.args.home.now c.args.slots.now.held c.args.remotes.now links in
     remote-StepMoves c.done-in-RemoteReply.result before None c.in-RemoteReply.j
     c.remote_at-in-RemoteReply.result (remote_reply setting c.in-RemoteReply.j)
     c.done-in-RemoteReply.new.remotes _ _ c.remote_at-in-RemoteReply.ensures
@@ -60,7 +60,7 @@ pub returns-in_ok-arrived-in-Down-clause-value : goal.returns-in_ok-arrived-in-D
 returns-in_ok-arrived-in-Down-clause-value c links arrives =
     let j = c.in-Down.j in
     let setting = setting_of c.args.table.now c.args.slots.now.size in
-    let before = standing_so c.args.home.now c.args.slots.now.held c.args.remotes.now links in
+    let before = config_of c.args.home.now c.args.slots.now.held c.args.remotes.now links in
     let packet = c.in_ok-arrived-in-Down.field-0 in
     let first : arrival before (Some (Down j)) ≡ Some packet =
     ap (arriving_on links) (sym c.in-Down.is) ∙ arrives ∙ c.in_ok-arrived-in-Down.was in

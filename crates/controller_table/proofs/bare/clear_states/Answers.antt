@@ -13,7 +13,8 @@ loop-state-preserved c =
     let place = c.loop-state.state-index in
     let info = get_or states place c.state-item.result in
     let cleared : in_place info.rules c.clear_rules.new.rules ≡ map bare_rule info.rules =
-    ap (in_place info.rules) (c.clear_rules.ensures ∙ ap (map bare_rule) c.as_mut_slice.ensures.value)
+    ap (in_place info.rules)
+    (c.clear_rules.ensures ∙ ap (map bare_rule) c.as_mut_slice.ensures.value)
     ∙ in_place-map bare_rule info.rules in
     mapped_in_place bare_state c.args.states.now states place
     (with_rules info (in_place info.rules c.clear_rules.new.rules)) c.state-item.result

@@ -7,6 +7,8 @@ use Rattle.controller_table.proofs.laws.no_two_rows_share_a_key.Goals as goal
 
 pub returns : goal.returns
 returns c = record {
-  home = λ protocol mode. apart-places (home_rows protocol mode) (home_rows-apart protocol.messages (replies_of protocol mode) protocol.home);
-  remote = λ protocol mode. apart-places (remote_rows protocol mode) (remote_rows-apart protocol.messages (replies_of protocol mode) protocol.remote);
+  home = λ protocol mode. apart-places (home_rows protocol mode)
+      (home_rows-apart protocol.messages (replies_of protocol mode) protocol.home);
+  remote = λ protocol mode. apart-places (remote_rows protocol mode)
+      (remote_rows-apart protocol.messages (replies_of protocol mode) protocol.remote);
 }

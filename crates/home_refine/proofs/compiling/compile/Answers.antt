@@ -23,7 +23,8 @@ new-requires c =
     (c.in_ok-home.ensures.rows
     ∙ ap (λ rs. home_rows_of protocol.messages rs protocol.home) (c.as_slice.ensures ∙ replies))
     (c.in_ok-remote.ensures.rows
-    ∙ ap (λ rs. remote_rows_of protocol.messages rs protocol.remote) (c.as_slice-2.ensures ∙ replies))
+    ∙ ap (λ rs. remote_rows_of protocol.messages rs protocol.remote)
+    (c.as_slice-2.ensures ∙ replies))
 
 pub returns-clause-table : goal.returns-clause-table
 returns-clause-table c =
@@ -43,4 +44,5 @@ returns-clause-table c =
     (c.in_ok-home.ensures.rows
     ∙ ap (λ rs. home_rows_of protocol.messages rs protocol.home) (c.as_slice.ensures ∙ replies))
     (c.in_ok-remote.ensures.rows
-    ∙ ap (λ rs. remote_rows_of protocol.messages rs protocol.remote) (c.as_slice-2.ensures ∙ replies))
+    ∙ ap (λ rs. remote_rows_of protocol.messages rs protocol.remote)
+    (c.as_slice-2.ensures ∙ replies))

@@ -12,12 +12,14 @@ use Rattle.request_reply.proofs.pairs.down_pairs.Goals as goal
 
 pub candidates-requires : goal.candidates-requires
 candidates-requires c =
-    body_among HomeOutputs side.Home c.args.checked.now.protocol.messages c.args.checked.now.protocol.home c.messages-count.result.now c.home.result.now
+    body_among HomeOutputs side.Home c.args.checked.now.protocol.messages
+    c.args.checked.now.protocol.home c.messages-count.result.now c.home.result.now
     c.home.ensures.proper.home c.messages-count.ensures.value c.home.ensures.value
 
 pub candidates-requires-2 : goal.candidates-requires-2
 candidates-requires-2 c =
-    body_among RemoteInputs side.Remote c.args.checked.now.protocol.messages c.args.checked.now.protocol.remote c.messages-count.result.now c.remote.result.now
+    body_among RemoteInputs side.Remote c.args.checked.now.protocol.messages
+    c.args.checked.now.protocol.remote c.messages-count.result.now c.remote.result.now
     c.remote.ensures.proper.remote c.messages-count.ensures.value c.remote.ensures.value
 
 pub loop-place-preserved : goal.loop-place-preserved
@@ -28,13 +30,15 @@ loop-place-preserved c =
     left_at HomeOutputs _ protocol.home _ _ _ place c.as_slice.ensures c.in_ok-outputs.ensures.each
     c.home.ensures.value c.loop-place-test.true in
     let inputs =
-    left_at RemoteInputs _ protocol.remote _ _ _ place c.as_slice-in-loop-place.ensures c.in_ok-inputs.ensures.each
+    left_at RemoteInputs _ protocol.remote _ _ _ place c.as_slice-in-loop-place.ensures
+    c.in_ok-inputs.ensures.each
     c.remote.ensures.value c.loop-place-test.true in
     let both =
     ap (λ kept. agreed kept (get_or c.as_slice-in-loop-place.result.now place Unseen)) outputs
     ∙ ap (agreed (candidate HomeOutputs protocol.home place)) inputs in
     one_more_reply
-    (λ m. cond (goes_down protocol m) (paired_with protocol m) None) c.loop-place.place c.only_reply.result
+    (λ m. cond (goes_down protocol m) (paired_with protocol m) None) c.loop-place.place
+    c.only_reply.result
     c.loop-place.replies c.push.new.self c.in_ok-push.ensures.ok c.loop-place.invariant
     (c.only_reply.ensures ∙ (ap only_reply (c.agreed-left.ensures ∙ both)
     ∙ sym (down_reply protocol c.messages-count.ensures.proper c.loop-place.place)))

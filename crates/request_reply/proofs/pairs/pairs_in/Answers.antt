@@ -22,9 +22,11 @@ plain_pairs : (protocol : NumberedProtocol) (n : ℕ) (pairs : Pairs) → n ≡ 
     → pairs.up ≡ replicate n None → pairs.down ≡ replicate n None → ArePairs protocol Plain pairs
 plain_pairs protocol n pairs count up down = record {
   up = up
-      ∙ (ap (λ k. replicate k None) count ∙ sym (none_each (goes_up protocol) 0 (length protocol.messages)));
+      ∙ (ap (λ k. replicate k None) count
+      ∙ sym (none_each (goes_up protocol) 0 (length protocol.messages)));
   down = down
-      ∙ (ap (λ k. replicate k None) count ∙ sym (none_each (goes_down protocol) 0 (length protocol.messages)));
+      ∙ (ap (λ k. replicate k None) count
+      ∙ sym (none_each (goes_down protocol) 0 (length protocol.messages)));
 }
 
 pub returns-in_ok-no_pairs-in-Plain-2 : goal.returns-in_ok-no_pairs-in-Plain-2
@@ -32,5 +34,6 @@ returns-in_ok-no_pairs-in-Plain-2 c =
     let pairs : Pairs =
     record { up = c.in_ok-no_pairs-in-Plain.field-0; down = c.in_ok-no_pairs-in-Plain-2.field-0 } in
     subst (λ mode. ArePairs c.args.checked.now.protocol mode pairs) (sym c.in-Plain.is)
-    (plain_pairs c.args.checked.now.protocol (length c.messages-count.result.now) pairs (ap length c.messages-count.ensures.value)
+    (plain_pairs c.args.checked.now.protocol (length c.messages-count.result.now) pairs
+    (ap length c.messages-count.ensures.value)
     c.in_ok-no_pairs-in-Plain.ensures c.in_ok-no_pairs-in-Plain-2.ensures)

@@ -6,7 +6,7 @@ use Rattle.proto_model.specs.Continued.{Continues}
 use Rattle.proto_model.proofs.Continuing.{Continues-append}
 use Rattle.controller_table.specs.Sound.{Tabled, IsSound}
 use Rattle.async_machine.specs.Standing.{setting, config}
-use Rattle.run_replay.specs.ToldWords.{given_text}
+use Rattle.rendezvous_meaning.specs.GivenMessage.{given_text}
 use Rattle.run_replay.proofs.MessagesBehind.{message_behind-given}
 use Rattle.run_replay.proofs.told_words.put_event.Goals as goal
 

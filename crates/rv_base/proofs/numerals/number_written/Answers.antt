@@ -11,10 +11,13 @@ returns-then-not-leads_well c n le same =
     absurd (cc)
 
 pub returns-in-Err : goal.returns-in-Err
-returns-in-Err c n le same = c.in-Err.ensures.cases.0 (decimal-IsUtf8 c.args.text.now n (omega (arith, le)) same)
+returns-in-Err c n le same = c.in-Err.ensures.cases.0
+    (decimal-IsUtf8 c.args.text.now n (omega (arith, le)) same)
 
 pub returns-in-Ok : goal.returns-in-Ok
 returns-in-Ok c =
     let leads = c.leads_well.ensures.0 c.if-not-leads_well.false in
     let text = c.in-Ok.ensures.cases.0 in
-    subst (λ r. ReadsNumber c.args.text.now _ r) (sym c.ok.ensures.value) (parse-ReadsNumber c.args.text.now c.parse.result leads (rw text at c.parse.ensures.value.0))
+    subst (λ r. ReadsNumber c.args.text.now _ r) (sym c.ok.ensures.value)
+    (parse-ReadsNumber c.args.text.now c.parse.result leads
+    (rw text at c.parse.ensures.value.0))

@@ -11,5 +11,7 @@ returns-then-is_err-clause-bytes g c =
     let piece = take c.in-Got.count c.read.new.into in (
       gathered ++ piece,
       grind (arith, common_steps),
-      c.loop-piece.invariant.taken ∙ (ap (prepend_known gathered) c.in-Got.ensures.bytes.2 ∙ prepend_known-append gathered piece (g.S.Source.left c.read.new.self)),
+      c.loop-piece.invariant.taken
+          ∙ (ap (prepend_known gathered) c.in-Got.ensures.bytes.2
+          ∙ prepend_known-append gathered piece (g.S.Source.left c.read.new.self)),
     )

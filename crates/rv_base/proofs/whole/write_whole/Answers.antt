@@ -13,8 +13,12 @@ loop-done-preserved g c =
     let before = g.O.Sink.taken c.args.out.now in
     let piece = take count (take (length text - done) (drop done text)) in
     record {
-      taken = c.in-Took.ensures.bytes.2 ∙ (ap (λ known. append_known known piece) c.loop-done.invariant.taken ∙ (append_known-append before (take done text) piece ∙ ap (append_known before) (take-append-rest text done count)));
+      taken = c.in-Took.ensures.bytes.2
+          ∙ (ap (λ known. append_known known piece) c.loop-done.invariant.taken
+          ∙ (append_known-append before (take done text) piece
+          ∙ ap (append_known before) (take-append-rest text done count)));
       same_count = c.in-Took.ensures.cause ∙ c.loop-done.invariant.same_count;
       same_wants = c.in-Took.ensures.wants ∙ c.loop-done.invariant.same_wants;
-      within = let most = c.in-Took.ensures.bytes.1 in omega (arith, rw (take_rest text done, length-drop done text) at most);
+      within = let most = c.in-Took.ensures.bytes.1 in omega
+          (arith, rw (take_rest text done, length-drop done text) at most);
     }

@@ -2,7 +2,8 @@
 use Rattle.std.proofs.Common.{◌≡◌, ℕ, true, false, take, drop, length, sym, ap, ◌∙◌, subst, arith}
 use Rattle.std.proofs.lemmas.List.{take_rest}
 use Rattle.rv_base.specs.Words.{ends_word, words}
-use Rattle.rv_base.proofs.FirstWord.{words_onto, words_onto-nothing, words_onto-more, words-first, words-last}
+use Rattle.rv_base.proofs.FirstWord.{words_onto, words_onto-nothing, words_onto-more, words-first}
+use Rattle.rv_base.proofs.FirstWord.{words-last}
 use Rattle.rv_base.proofs.words.word_end.Goals as goal
 
 pub loop-end-init : goal.loop-end-init

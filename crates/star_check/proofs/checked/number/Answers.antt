@@ -47,5 +47,6 @@ invariant_of-result c =
     (made-protocol a.protocol.now a.home.now a.remote.now own.home own.remote _ _ _ _
     c.in_ok-copy.ensures c.in_ok-number_messages.ensures c.in_ok-number_body.ensures
     c.in_ok-number_body-2.ensures protocol refl)
-    (c.in_ok-number_claims.ensures ∙ ap (map (numbered_claim a.remote.now.states)) c.as_slice.ensures)
+    (c.in_ok-number_claims.ensures
+    ∙ ap (map (numbered_claim a.remote.now.states)) c.as_slice.ensures)
     checked refl)

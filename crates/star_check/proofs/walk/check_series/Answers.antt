@@ -7,5 +7,7 @@ use Rattle.star_check.proofs.walk.check_series.Goals as goal
 pub returns-clause-passes : goal.returns-clause-passes
 returns-clause-passes g c = (
   grind (arith, common_steps),
-  ap (λ k. c.args.start + k) (ap length c.listed-items.ensures ∙ sym (length-map_from (g.S.Series.codes_at c.args.series.now) 0 (g.S.Series.items_of c.args.series.now))),
+  ap (λ k. c.args.start + k) (ap length c.listed-items.ensures
+      ∙ sym (length-map_from (g.S.Series.codes_at c.args.series.now) 0
+      (g.S.Series.items_of c.args.series.now))),
 )

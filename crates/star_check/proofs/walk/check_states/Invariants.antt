@@ -11,5 +11,6 @@ invariant-loop-place l = record {
   counted : l.next + length (states_from (scope_seen l.scope) l.place (drop l.place l.scope.states))
       ≡ l.start + length (states_from (scope_seen l.scope) 0 l.scope.states);
   passed : first (faults_from l.start (states_from (scope_seen l.scope) 0 l.scope.states))
-      ≡ first (faults_from l.next (states_from (scope_seen l.scope) l.place (drop l.place l.scope.states)));
+      ≡ first (faults_from l.next
+      (states_from (scope_seen l.scope) l.place (drop l.place l.scope.states)));
 }

@@ -10,5 +10,6 @@ unfolding table_json
 returns c =
     let table = c.args.table.now in
     let value_is = c.in_ok-table_value.ensures in
-    let text_is = c.in_ok-bytes.ensures.text (ap has_float value_is ∙ table-no_float table) ∙ ap compact_text value_is in
+    let text_is = c.in_ok-bytes.ensures.text (ap has_float value_is ∙ table-no_float table)
+    ∙ ap compact_text value_is in
     c.in_ok-push.ensures.items ∙ ap (λ (text : List ℕ). text ++ 10 ∷ []) text_is

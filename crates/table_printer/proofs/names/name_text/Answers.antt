@@ -5,11 +5,13 @@ use Rattle.std.specs.Result.{MatchResult, IsOk}
 use Rattle.table_printer.proofs.AsciiNames.{AllWord-text}
 use Rattle.table_printer.proofs.names.name_text.Goals as goal
 
-ok_of : {A B : Type 0} (result : Result A B) (P : A → Type 0) (Q : B → Type 0) → ((error : B) → Q error → ⊥) → MatchResult result P Q → IsOk result
+ok_of : {A B : Type 0} (result : Result A B) (P : A → Type 0) (Q : B → Type 0)
+    → ((error : B) → Q error → ⊥) → MatchResult result P Q → IsOk result
 ok_of (Ok value) P Q none cases = refl
 ok_of (Err error) P Q none cases = absurd (none error cases)
 
 pub unwrap-requires : goal.unwrap-requires
 unwrap-requires c =
-    let text : IsUtf8 c.bytes.result.now = subst IsUtf8 (sym c.bytes.ensures.value) (AllWord-text c.args.name.now c.bytes.ensures.word) in
+    let text : IsUtf8 c.bytes.result.now = subst IsUtf8 (sym c.bytes.ensures.value)
+    (AllWord-text c.args.name.now c.bytes.ensures.word) in
     ok_of c.from_utf8.result _ _ (λ error cases. cases.0 text) c.from_utf8.ensures.cases

@@ -9,5 +9,6 @@ loop-message-preserved c =
     let messages = c.args.messages.now in
     let info = c.index-messages-message.result in
     let within : c.loop-message.message < length messages = omega arith in
-    let more = flat_from-one_more (message_line messages c.args.replies.now) messages c.loop-message.message info within in
+    let more = flat_from-one_more (message_line messages c.args.replies.now) messages
+    c.loop-message.message info within in
     cc (more, c.in_ok-push_str.ensures.bytes, c.deref.ensures, c.in_ok-message_line.ensures)

@@ -8,7 +8,7 @@ use Rattle.async_shape.specs.Shape.{IsShaped}
 use Rattle.async_shape.specs.declared.config.HomeState.{HomeState}
 use Rattle.async_shape.specs.declared.config.RemoteState.{RemoteState}
 use Rattle.async_shape.proofs.Start.{IsShaped-start}
-use Rattle.async_machine.specs.Standing.{setting_of, standing_so}
+use Rattle.async_machine.specs.Standing.{setting_of, config_of}
 use Rattle.async_machine.proofs.machine.Machine.new.Goals as goal
 
 -- these parts stand at the start with n remotes
@@ -16,7 +16,7 @@ started : (table : Tabled) (k n : ℕ) (home : HomeState) (slots : Reserve)
     (remotes : List RemoteState) (links : List LinkPair) → IsSound table → 1 ≤ n → n ≤ 64 → 2 ≤ k
     → k ≤ 64 → home ≡ (start (protocol_of table) n).home → slots ≡ record { size = k; held = [] }
     → remotes ≡ (start (protocol_of table) n).remotes → links ≡ replicate n no_packets
-    → IsShaped (setting_of table slots.size) (standing_so home slots.held remotes links)
+    → IsShaped (setting_of table slots.size) (config_of home slots.held remotes links)
 started table k n home slots remotes links sound some few two most at_home empty at_remotes none =
     rw (at_home, empty, at_remotes, none)
     (IsShaped-start (setting_of table k) n sound.proper some few two most)

@@ -5,7 +5,7 @@ use Rattle.async_shape.specs.Next.{links_left}
 use Rattle.async_shape.specs.Outcome.{Put}
 use Rattle.async_shape.specs.Site.{site, arrival_link}
 use Rattle.async_machine.specs.Effects.{DidPut, DidTake}
-use Rattle.async_machine.specs.Standing.{standing_so, IsStanding}
+use Rattle.async_machine.specs.Standing.{config_of, IsStanding}
 use Rattle.async_machine.proofs.Bounds.{in_range-linked, in_range-on_links, shaped-debts}
 use Rattle.async_machine.proofs.Bounds.{shaped-ack_slot}
 use Rattle.async_machine.proofs.Made.{IsMade, made-room, made-linked, made-next, made-standing}
@@ -33,7 +33,7 @@ moves-requires-clause-room g c = shaped-ack_slot _ _ c.self.invariant.shaped
 -- the step that was made
 made : (g : Over) (c : In-Some g)
     → IsMade c.self.inside.table.now c.self.inside.slots.size
-    (standing_so c.self.inside.home c.self.inside.slots.held c.self.inside.remotes
+    (config_of c.self.inside.home c.self.inside.slots.held c.self.inside.remotes
     (g.L.Links.lists c.self.inside.links))
     c.args.step c.in-Some.sends c.moves.new.home c.moves.new.slots.held c.moves.new.remotes
 made g c = record {
@@ -54,7 +54,7 @@ invariant_of-self-2 g c =
     let put = ap (links_left (arrival_link (site c.args.step))) c.send.ensures.lists in
     let step = made g (goal.at.invariant_of-self-2 g c).In-Some in
     let stands = made-standing step _ (c.take.ensures.lists ∙ put) in
-    let after = standing_so c.moves.new.home c.moves.new.slots.held c.moves.new.remotes _ in
+    let after = config_of c.moves.new.home c.moves.new.slots.held c.moves.new.remotes _ in
     subst (λ (k : ℕ). IsStanding c.self.inside.table.now k after) (sym c.in-Some.ensures.size)
     stands
 

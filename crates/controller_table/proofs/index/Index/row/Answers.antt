@@ -7,4 +7,6 @@ use Rattle.controller_table.proofs.index.Index.row.Goals as goal
 pub returns-in-Some : goal.returns-in-Some
 returns-in-Some c =
     finds-only c.args.rows.now c.args.at c.args.on c.in-Some.place.now _ c.requires.differ
-    (subst (λ (found : Option ℕ). Finds c.args.rows.now c.args.at c.args.on found) (sym c.in-Some.ensures.value) (c.requires.finds (record { at = c.args.at; on = c.args.on })))
+    (subst (λ (found : Option ℕ). Finds c.args.rows.now c.args.at c.args.on found)
+    (sym c.in-Some.ensures.value)
+    (c.requires.finds (record { at = c.args.at; on = c.args.on })))

@@ -14,7 +14,9 @@ pub loop-node-init : goal.loop-node-init
 loop-node-init c =
     let none = sym (members_below-none c.args.set) in
     record {
-      text = subst (λ (text : Text). Continues text c.args.so_far c.args.out.now.items c.args.so_far c.args.out.now.items) (ap joined none) (Continues-none c.args.so_far c.args.out.now.items);
+      text = subst (λ (text : Text). Continues text c.args.so_far c.args.out.now.items c.args.so_far
+          c.args.out.now.items) (ap joined none)
+          (Continues-none c.args.so_far c.args.out.now.items);
       first = ap is_nil none;
     }
 
@@ -26,12 +28,18 @@ loop-node-preserved c =
     elim c.if-has_number.branch [
       | then-has_number w ↦
           let has : has_number set node ≡ true = cc in
-          let grown : before ++ member_text c.loop-node.first node ≡ joined (members_below set (node + 1)) =
+          let grown : before ++ member_text c.loop-node.first node
+          ≡ joined (members_below set (node + 1)) =
           ap (λ (first : Bool). before ++ member_text first node) c.loop-node.invariant.first
           ∙ sym (joined-with set node has) in
-          let both = Continues-append before (member_text c.loop-node.first node) c.args.so_far c.loop-node.so_far w.put_member-so_far.result c.args.out.now.items c.loop-node.out.items w.put_member-so_far.new.out.items c.loop-node.invariant.text w.put_member-so_far.ensures in
+          let both = Continues-append before (member_text c.loop-node.first node) c.args.so_far
+          c.loop-node.so_far w.put_member-so_far.result c.args.out.now.items
+          c.loop-node.out.items w.put_member-so_far.new.out.items c.loop-node.invariant.text
+          w.put_member-so_far.ensures in
           record {
-            text = rw (w.so_far-is, w.out-is) (subst (λ (text : Text). Continues text c.args.so_far c.args.out.now.items w.put_member-so_far.result w.put_member-so_far.new.out.items) grown both);
+            text = rw (w.so_far-is, w.out-is)
+                (subst (λ (text : Text). Continues text c.args.so_far c.args.out.now.items
+                w.put_member-so_far.result w.put_member-so_far.new.out.items) grown both);
             first = w.first-is ∙ sym (is_nil-with set node has);
           }
       | else-has_number w ↦

@@ -7,6 +7,7 @@ use Rattle.proto_model.proofs.texts.pieces.put_members.Given as goal
 
 abbrev pub invariant-loop-node : goal.invariant-loop-node
 invariant-loop-node l = record {
-  text : Continues (joined (members_below l.set l.node)) l.fn.so_far l.fn.out.items l.so_far l.out.items;
+  text : Continues (joined (members_below l.set l.node)) l.fn.so_far l.fn.out.items l.so_far
+      l.out.items;
   first : l.first ≡ is_nil (members_below l.set l.node);
 }

@@ -12,4 +12,5 @@ returns-clause-kinds c = λ proper.
     let infos = c.args.infos.now in
     let whole : length infos ≤ c.loop-info.info-index = omega arith in
     subst (λ (vars : List Value). AreOfKinds infos vars)
-    (sym (c.loop-info.invariant ∙ ap first_values (take_all c.loop-info.info-index infos whole))) (AreOfKinds-first infos proper)
+    (sym (c.loop-info.invariant ∙ ap first_values (take_all c.loop-info.info-index infos whole)))
+    (AreOfKinds-first infos proper)

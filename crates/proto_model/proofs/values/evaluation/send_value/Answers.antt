@@ -10,4 +10,5 @@ pub returns-in-Output-clause-carried : goal.returns-in-Output-clause-carried
 returns-in-Output-clause-carried c = λ messages infos typed offers.
     let value : c.reduced.result ≡ sends c.args.vars.now c.args.rule.now.kind c.args.carries =
     rw c.in-Output.is (c.reduced.ensures ∙ ap (reduced c.args.carries) c.offered.ensures) in
-    subst (λ (v : Value). IsCarried c.args.carries v) (sym value) (IsCarried-send messages infos c.args.vars.now c.args.rule.now c.args.carries typed offers)
+    subst (λ (v : Value). IsCarried c.args.carries v) (sym value)
+    (IsCarried-send messages infos c.args.vars.now c.args.rule.now c.args.carries typed offers)

@@ -2,7 +2,8 @@
 use Rattle.std.proofs.Common.{◌≡◌, ℕ, ◌<◌, true, false, sym, ap, ◌∙◌, arith}
 use Rattle.proto_model.specs.NumberSets.{has_number, numbers_below}
 use Rattle.proto_model.specs.Values.{may_meet}
-use Rattle.proto_model.proofs.NumberBits.{numbers_below-none, numbers_below-with, numbers_below-without}
+use Rattle.proto_model.proofs.NumberBits.{numbers_below-none, numbers_below-with}
+use Rattle.proto_model.proofs.NumberBits.{numbers_below-without}
 use Rattle.proto_model.proofs.NumberBits.{numbers_below-room, bit-small, has_number-numbers_below}
 use Rattle.proto_model.proofs.values.evaluation.targets.Goals as goal
 use Rattle.proto_model.proofs.values.evaluation.targets.Goals.{then-is_target, else-is_target}
@@ -26,10 +27,21 @@ loop-node-preserved c =
     elim c.if-is_target.branch [
       | then-is_target w ↦
           let is : test c.loop-node.node ≡ true = cc in
-          omega (arith, numbers_below-with test c.loop-node.node is, bit, w.set-is, c.loop-node.invariant)
+          omega (
+            arith,
+            numbers_below-with test c.loop-node.node is,
+            bit,
+            w.set-is,
+            c.loop-node.invariant,
+          )
       | else-is_target w ↦
           let is : test c.loop-node.node ≡ false = cc in
-          omega (arith, numbers_below-without test c.loop-node.node is, w.set-is, c.loop-node.invariant)
+          omega (
+            arith,
+            numbers_below-without test c.loop-node.node is,
+            w.set-is,
+            c.loop-node.invariant,
+          )
     ]
 
 pub returns-clause-members : goal.returns-clause-members

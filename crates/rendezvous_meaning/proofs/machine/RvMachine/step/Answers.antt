@@ -8,17 +8,20 @@ invariant_of-self c =
     let inside = c.self.inside in
     record {
       proper = c.self.invariant.proper;
-      stands = IsConfigOf-taken inside.protocol.now.protocol inside.config c.take.new.config c.args.event c.take.result c.self.invariant.proper c.self.invariant.stands c.take.ensures;
+      stands = IsConfigOf-taken inside.protocol.now.protocol inside.config c.take.new.config
+          c.args.event c.take.result c.self.invariant.proper c.self.invariant.stands c.take.ensures;
     }
 
 pub returns-clause-moved : goal.returns-clause-moved
 returns-clause-moved c =
     let inside = c.self.inside in
     rw (← c.self.view_is)
-    (RvStep-taken inside.protocol.now.protocol inside.config c.take.new.config c.args.event c.take.result c.take.ensures)
+    (RvStep-taken inside.protocol.now.protocol inside.config c.take.new.config c.args.event
+    c.take.result c.take.ensures)
 
 pub returns-clause-only : goal.returns-clause-only
 returns-clause-only c =
     let inside = c.self.inside in
     rw (← c.self.view_is)
-    (taken-RvStep inside.protocol.now.protocol inside.config c.take.new.config c.args.event c.take.result c.take.ensures)
+    (taken-RvStep inside.protocol.now.protocol inside.config c.take.new.config c.args.event
+    c.take.result c.take.ensures)

@@ -6,4 +6,5 @@ use Rattle.request_reply.proofs.look.Look.candidates.Given as goal
 
 abbrev pub invariant-loop-state : goal.invariant-loop-state
 invariant-loop-state l =
-    l.candidates ≡ noted_all l.self l.body (replicate l.count Unseen) (flat_map (λ state. state.rules) (take l.state-index l.state-items))
+    l.candidates ≡ noted_all l.self l.body (replicate l.count Unseen)
+    (flat_map (λ state. state.rules) (take l.state-index l.state-items))

@@ -7,4 +7,5 @@ use Rattle.proto_model.proofs.layout.writer.Writer.assigns.Given as goal
 
 abbrev pub invariant-loop-assign : goal.invariant-loop-assign
 invariant-loop-assign l =
-    Lays (words (flat_map (λ b. part (codes ",") ∷ assign_tokens b) (take l.assign-index l.more))) l.initial.self l.self
+    Lays (words (flat_map (λ b. part (codes ",") ∷ assign_tokens b) (take l.assign-index l.more)))
+    l.initial.self l.self

@@ -6,4 +6,5 @@ use Rattle.proto_model.proofs.layout.writer.Writer.claims.Given as goal
 
 abbrev pub invariant-loop-claim : goal.invariant-loop-claim
 invariant-loop-claim l =
-    Lays (marks_of (map (λ x. at 0 (claim_tokens x)) (take l.claim-index l.claims))) l.initial.self l.self
+    Lays (marks_of (map (λ x. at 0 (claim_tokens x)) (take l.claim-index l.claims))) l.initial.self
+    l.self

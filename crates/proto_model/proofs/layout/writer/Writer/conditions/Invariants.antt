@@ -7,4 +7,5 @@ use Rattle.proto_model.proofs.layout.writer.Writer.conditions.Given as goal
 
 abbrev pub invariant-loop-atom : goal.invariant-loop-atom
 invariant-loop-atom l =
-    Lays (words (flat_map (λ b. part (codes "and") ∷ atom_tokens b) (take l.atom-index l.more))) l.initial.self l.self
+    Lays (words (flat_map (λ b. part (codes "and") ∷ atom_tokens b) (take l.atom-index l.more)))
+    l.initial.self l.self

@@ -6,4 +6,5 @@ use Rattle.proto_model.proofs.layout.writer.Writer.guards.Given as goal
 
 abbrev pub invariant-loop-guard : goal.invariant-loop-guard
 invariant-loop-guard l =
-    Lays (marks_of (map (λ x. at 4 (guard_tokens x)) (take l.guard-index l.guards))) l.initial.self l.self
+    Lays (marks_of (map (λ x. at 4 (guard_tokens x)) (take l.guard-index l.guards))) l.initial.self
+    l.self

@@ -10,7 +10,8 @@ use Rattle.proto_model.proofs.Writing.{Lays-append}
 use Rattle.proto_model.proofs.layout.writer.Writer.protocol.Goals as goal
 
 -- the marks of a protocol's lines, part by part
-by_parts : (header : Line) (messages home remote claims : List Line) (home_opening remote_opening : Line)
+by_parts : (header : Line) (messages home remote claims : List Line)
+    (home_opening remote_opening : Line)
     → line_marks header
     ++ (marks_of messages
     ++ (marks_of (home_opening ∷ home) ++ (marks_of (remote_opening ∷ remote) ++ marks_of claims)))
@@ -29,15 +30,18 @@ returns c =
     let remote = at 0 (item (codes "remote") ∷ opening ∷ []) in
     let before = c.header.new.self in
     let behind = c.claims.new.self in
-    let messages = subst (λ (ms : List Message). Lays (marks_of (map message_line ms)) before c.messages.new.self)
+    let messages = subst (λ (ms : List Message). Lays (marks_of (map message_line ms)) before
+    c.messages.new.self)
     c.as_slice.ensures c.messages.ensures in
-    let claims = subst (λ (cs : List Claim). Lays (marks_of (map claim_line cs)) c.process-2.new.self behind)
+    let claims = subst (λ (cs : List Claim). Lays (marks_of (map claim_line cs))
+    c.process-2.new.self behind)
     c.as_slice-2.ensures c.claims.ensures in
     let home_marks = marks_of (home ∷ body_lines p.home) in
     let remote_marks = marks_of (remote ∷ body_lines p.remote) in
     let claim_marks = marks_of (map claim_line p.claims) in
     let last = Lays-append remote_marks claim_marks _ _ behind c.process-2.ensures claims in
-    let processes = Lays-append home_marks (remote_marks ++ claim_marks) _ _ behind c.process.ensures last in
+    let processes = Lays-append home_marks (remote_marks ++ claim_marks) _ _ behind
+    c.process.ensures last in
     subst (λ (marks : List Mark). Lays marks c.args.self.now behind)
     (by_parts header (map message_line p.messages) (body_lines p.home) (body_lines p.remote)
     (map claim_line p.claims) home remote)

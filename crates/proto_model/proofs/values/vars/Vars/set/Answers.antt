@@ -5,4 +5,8 @@ use Rattle.proto_model.proofs.values.vars.Vars.set.Goals as goal
 
 pub returns-then-place-self : goal.returns-then-place-self
 returns-then-place-self c =
-    rw (take-set-lt c.self.inside.len c.self.inside.values c.args.place c.args.value c.if-place-self.true, c.self.view_is) refl
+    rw (
+      take-set-lt c.self.inside.len c.self.inside.values c.args.place c.args.value
+          c.if-place-self.true,
+      c.self.view_is,
+    ) refl

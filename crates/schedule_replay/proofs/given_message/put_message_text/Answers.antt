@@ -2,7 +2,7 @@
 use Rattle.std.proofs.Common.{◌≡◌, Err}
 use Rattle.proto_model.specs.Texts.{message_text}
 use Rattle.schedule_replay.proofs.Chained.{ceased}
-use Rattle.run_replay.proofs.state_lines.put_message_text.Goals as goal
+use Rattle.schedule_replay.proofs.given_message.put_message_text.Goals as goal
 
 pub returns-in-Err : goal.returns-in-Err
 returns-in-Err c =

@@ -4,9 +4,9 @@ use Rattle.std.proofs.lemmas.Option.{slice_get_past}
 use Rattle.std.specs.Option.{option_map_or}
 use Rattle.proto_model.specs.Texts.{message_text}
 use Rattle.proto_model.specs.declared.numbered.MessageInfo.{MessageInfo}
-use Rattle.run_replay.specs.StateLines.{numbered_message}
+use Rattle.rendezvous_meaning.specs.GivenMessage.{numbered_message}
 use Rattle.schedule_replay.proofs.Chained.{nothing}
-use Rattle.run_replay.proofs.state_lines.put_message.Goals as goal
+use Rattle.schedule_replay.proofs.given_message.put_message.Goals as goal
 
 pub returns-in-None : goal.returns-in-None
 returns-in-None c =

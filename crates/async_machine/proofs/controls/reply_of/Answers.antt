@@ -3,7 +3,7 @@ use Rattle.std.proofs.Common.{ℕ, List, Option, ap, ◌∙◌}
 use Rattle.controller_table.specs.Rows.{reply_at}
 use Rattle.controller_table.specs.Sound.{protocol_of}
 use Rattle.async_shape.proofs.RepliesThere.{reply_at-is}
-use Rattle.async_machine.proofs.controls.reply.Goals as goal
+use Rattle.async_machine.proofs.controls.reply_of.Goals as goal
 
 pub returns : goal.returns
 returns c =

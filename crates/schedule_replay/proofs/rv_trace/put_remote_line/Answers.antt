@@ -1,7 +1,7 @@
 -- The remote stands in a configuration, so it has a rendezvous line.
 use Rattle.std.proofs.Common.{sym}
 use Rattle.schedule_replay.proofs.ShownParts.{vars-length, remote-stands}
-use Rattle.schedule_replay.proofs.rv_trace.put_remote.Goals as goal
+use Rattle.schedule_replay.proofs.rv_trace.put_remote_line.Goals as goal
 
 pub rv_line-requires-clause-vars : goal.rv_line-requires-clause-vars
 rv_line-requires-clause-vars c =

@@ -1,6 +1,6 @@
 -- The home stands in a configuration, so it has a rendezvous line.
 use Rattle.schedule_replay.proofs.ShownParts.{vars-length}
-use Rattle.schedule_replay.proofs.rv_trace.put_home.Goals as goal
+use Rattle.schedule_replay.proofs.rv_trace.put_home_line.Goals as goal
 
 pub rv_line-requires-clause-vars : goal.rv_line-requires-clause-vars
 rv_line-requires-clause-vars c =
