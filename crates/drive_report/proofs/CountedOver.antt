@@ -4,11 +4,11 @@ use Rattle.std.proofs.Common.{map, fold, replicate, refl, sym, ap, arith, ◌∙
 use Rattle.ordered_links.specs.Lists.{LinkPair, no_packets}
 use Rattle.async_shape.specs.Setting.{Setting}
 use Rattle.async_shape.specs.Config.{Config, start}
-use Rattle.async_shape.specs.Bounded.{is_request}
+use Rattle.ordered_links.specs.Packets.{is_request, is_ack, is_nack, is_reply}
 use Rattle.async_shape.specs.Run.{after_step, run}
 use Rattle.async_shape.specs.declared.step.Step.{Step}
-use Rattle.drive_report.specs.Drive.{Driven, drive_run, moments, tells_event, puts_a, is_ack, is_nack}
-use Rattle.drive_report.specs.Drive.{is_reply, crosses_at, greatest, longest_up, longest_down}
+use Rattle.drive_report.specs.Drive.{Driven, drive_run, moments, tells_event, puts_a}
+use Rattle.drive_report.specs.Drive.{crosses_at, greatest, longest_up, longest_down}
 use Rattle.drive_report.specs.Drive.{summary_of, summary}
 use Rattle.drive_report.specs.Turns.{one_if, nothing_counted, counted, counted_all, counted_to_end}
 use Rattle.drive_report.specs.declared.summary.Summary.{Summary}
@@ -82,7 +82,8 @@ module _ (setting : Setting) where
       let counted_steps : 0 + length steps ≡ length steps = omega arith in
       let step_count = steps-over nothing_counted c steps ∙ counted_steps in
       let events =
-      count-over (λ s. s.events) (tells_event setting) (λ so_far d s. refl) nothing_counted c steps in
+      count-over (λ s. s.events) (tells_event setting) (λ so_far d s. refl) nothing_counted c
+      steps in
       let requests =
       count-over (λ s. s.requests) (λ m. puts_a setting m is_request) (λ so_far d s. refl)
       nothing_counted c steps in
@@ -99,13 +100,26 @@ module _ (setting : Setting) where
       count-over (λ s. s.crossed) (λ m. crosses_at m.0 m.1) (λ so_far d s. refl) nothing_counted c
       steps in
       let most_held =
-      greatest-from (λ s. s.most_held) (λ d. length d.held) (λ so_far d s. refl) refl c held steps in
+      greatest-from (λ s. s.most_held) (λ d. length d.held) (λ so_far d s. refl) refl c held
+      steps in
       let most_up =
-      greatest-from (λ s. s.most_up) (λ d. longest_up d.links) (λ so_far d s. refl) refl c up steps in
+      greatest-from (λ s. s.most_up) (λ d. longest_up d.links) (λ so_far d s. refl) refl c up
+      steps in
       let most_down =
       greatest-from (λ s. s.most_down) (λ d. longest_down d.links) (λ so_far d s. refl) refl c down
       steps in
-      rw (step_count, events, requests, acks, nacks, replies, crossed, most_held, most_up, most_down)
+      rw (
+        step_count,
+        events,
+        requests,
+        acks,
+        nacks,
+        replies,
+        crossed,
+        most_held,
+        most_up,
+        most_down,
+      )
       refl
 
 -- no packet is on links that are empty

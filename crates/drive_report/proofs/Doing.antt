@@ -148,7 +148,8 @@ module _ (setting : Setting) (n : ℕ) (home : HomeState) (held : List Held) (st
       (λ place.
       is_some (option_and_then
       (λ s.
-      option_and_then (λ (r : Held). dropped able (may_drop setting n home held j (guards_of body s)))
+      option_and_then (λ (r : Held). dropped able
+      (may_drop setting n home held j (guards_of body s)))
       (first_of j held))
       (home_idle_state place))) idle
       ∙ ap
@@ -167,8 +168,11 @@ module _ (setting : Setting) (j : ℕ) (remote : RemoteState) where
         → is_open remote.vars rule ≡ true → is_some (remote_tau setting remote g) ≡ true
     unfolding remote_tau
     remote_tau-does g rule there tau passes =
-        rw
-        (idle, tau_part-open setting.protocol.remote (part state remote.vars) g rule there tau passes)
+        rw (
+          idle,
+          tau_part-open setting.protocol.remote (part state remote.vars) g rule there tau
+              passes,
+        )
         refl
 
     -- an output gives a message

@@ -1,6 +1,7 @@
 -- A turn of a driven run: where it goes on, and where it stops.
 use Rattle.std.proofs.Common.{◌≡◌, ℕ, zero, suc, ◌+◌, ◌-◌, ◌<◌, ◌≤◌, ◌/◌, ◌^◌, Bool, true, false}
-use Rattle.std.proofs.Common.{List, [], ◌∷◌, length, filter, Option, Some, None, refl, sym, ap, subst}
+use Rattle.std.proofs.Common.{List, [], ◌∷◌, length, filter, Option, Some, None, refl, sym, ap}
+use Rattle.std.proofs.Common.{subst}
 use Rattle.std.proofs.Common.{arith, ◌∙◌}
 use Rattle.std.specs.List.{AllByRecursion}
 use Rattle.std.proofs.Math.Nat.{mod-lt}
@@ -9,7 +10,7 @@ use Rattle.rv_base.proofs.Lists.{AllByRecursion-at}
 use Rattle.proto_model.specs.Proper.{IsProper}
 use Rattle.async_shape.specs.Setting.{Setting}
 use Rattle.async_shape.specs.Config.{Config, count_of, start}
-use Rattle.async_shape.specs.Bounded.{is_request}
+use Rattle.ordered_links.specs.Packets.{is_request, is_ack, is_nack, is_reply}
 use Rattle.async_shape.specs.Next.{is_enabled}
 use Rattle.async_shape.specs.Run.{after_step}
 use Rattle.async_shape.specs.Shape.{IsShaped}
@@ -18,8 +19,8 @@ use Rattle.async_shape.proofs.Start.{IsShaped-start}
 use Rattle.async_shape.proofs.EveryStepKeep.{IsShaped-after_step}
 use Rattle.abstraction_map.specs.Abstraction.{abstraction}
 use Rattle.drive_report.specs.Drive.{Driven, driven_on, number_after, place_chosen, step_chosen}
-use Rattle.drive_report.specs.Drive.{drive_from, drive_run, tells_event, puts_a, is_ack, is_nack}
-use Rattle.drive_report.specs.Drive.{is_reply, crosses_at}
+use Rattle.drive_report.specs.Drive.{drive_from, drive_run, tells_event, puts_a}
+use Rattle.drive_report.specs.Drive.{crosses_at}
 use Rattle.drive_report.specs.Ready.{all_steps, ready_list, IsStill}
 use Rattle.drive_report.specs.Turns.{one_if, IsAtMost, ended, counted, counted_to_end, IsTurn}
 use Rattle.async_shape.specs.Run.{config_at_end}
@@ -52,7 +53,8 @@ module _ (setting : Setting) (left : ℕ) (c d : Config) (x : ℕ) (so_far now :
   stop-by None is = rw is.1 refl
   stop-by (Some s) is = absurd (cc)
 
-  pub turn-stops : IsTurn setting (step_chosen (number_after x) (ready_list setting c)) false c so_far
+  pub turn-stops : IsTurn setting (step_chosen (number_after x) (ready_list setting c)) false c
+      so_far
       d now
       → ended true now ≡ counted_to_end setting so_far c (drive_from setting (suc left) c x)
   turn-stops is = stop-by (step_chosen (number_after x) (ready_list setting c)) is
@@ -175,48 +177,50 @@ module _ (setting : Setting) (most : ℕ) (c d : Config) (so_far now : Summary)
 module _ (of from : Setting) (same : of ≡ from) (count done : ℕ) (within : done < count)
     (c d : Config) (x next : ℕ) (follows_x : next ≡ number_after x) (so_far now whole : Summary)
     (is_whole : counted_to_end from so_far c (drive_from from (count - done) c x) ≡ whole)
-    (moved : Bool) (turn : IsTurn of (step_chosen next (ready_list of c)) moved c so_far d now) where
-  left : suc (count - (done + 1)) ≡ count - done
-  left = omega arith
+    (moved : Bool) (turn : IsTurn of (step_chosen next (ready_list of c)) moved c so_far d now)
+  where
+    left : suc (count - (done + 1)) ≡ count - done
+    left = omega arith
 
-  turn-here : IsTurn from (step_chosen (number_after x) (ready_list from c)) moved c so_far d now
-  turn-here =
-      subst (λ (k : ℕ). IsTurn from (step_chosen k (ready_list from c)) moved c so_far d now)
-      follows_x
-      (subst (λ (s : Setting). IsTurn s (step_chosen next (ready_list s c)) moved c so_far d now) same
-      turn)
+    turn-here : IsTurn from (step_chosen (number_after x) (ready_list from c)) moved c so_far d now
+    turn-here =
+        subst (λ (k : ℕ). IsTurn from (step_chosen k (ready_list from c)) moved c so_far d now)
+        follows_x
+        (subst (λ (s : Setting). IsTurn s (step_chosen next (ready_list s c)) moved c so_far d now)
+        same
+        turn)
 
-  so_whole : counted_to_end from so_far c (drive_from from (suc (count - (done + 1))) c x) ≡ whole
-  so_whole =
-      ap (λ (k : ℕ). counted_to_end from so_far c (drive_from from k c x)) left ∙ is_whole
+    so_whole : counted_to_end from so_far c (drive_from from (suc (count - (done + 1))) c x) ≡ whole
+    so_whole =
+        ap (λ (k : ℕ). counted_to_end from so_far c (drive_from from k c x)) left ∙ is_whole
 
-  -- It took a step, and so they are the whole after it.
-  pub turn-goes_on : moved ≡ true
-      → counted_to_end from now d (drive_from from (count - (done + 1)) d next) ≡ whole
-  turn-goes_on took =
-      ap (λ (k : ℕ). counted_to_end from now d (drive_from from (count - (done + 1)) d k)) follows_x
-      ∙ turn-on from (count - (done + 1)) c d x so_far now
-      (subst
-      (λ (b : Bool).
-      IsTurn from (step_chosen (number_after x) (ready_list from c)) b c so_far d now) took
-      turn-here)
-      ∙ so_whole
+    -- It took a step, and so they are the whole after it.
+    pub turn-goes_on : moved ≡ true
+        → counted_to_end from now d (drive_from from (count - (done + 1)) d next) ≡ whole
+    turn-goes_on took =
+        ap (λ (k : ℕ). counted_to_end from now d (drive_from from (count - (done + 1)) d k)) follows_x
+        ∙ turn-on from (count - (done + 1)) c d x so_far now
+        (subst
+        (λ (b : Bool).
+        IsTurn from (step_chosen (number_after x) (ready_list from c)) b c so_far d now) took
+        turn-here)
+        ∙ so_whole
 
-  pub turn-counts : moved ≡ true → IsAtMost done so_far
-      → IsAtMost (done + 1) now × (now.stopped ≡ so_far.stopped)
-  turn-counts took few =
-      few-by from done c d so_far now few (step_chosen (number_after x) (ready_list from c))
-      (subst
-      (λ (b : Bool).
-      IsTurn from (step_chosen (number_after x) (ready_list from c)) b c so_far d now) took
-      turn-here)
+    pub turn-counts : moved ≡ true → IsAtMost done so_far
+        → IsAtMost (done + 1) now × (now.stopped ≡ so_far.stopped)
+    turn-counts took few =
+        few-by from done c d so_far now few (step_chosen (number_after x) (ready_list from c))
+        (subst
+        (λ (b : Bool).
+        IsTurn from (step_chosen (number_after x) (ready_list from c)) b c so_far d now) took
+        turn-here)
 
-  -- It took none, and the run has stopped.
-  pub turn-ends : moved ≡ false → ended true now ≡ whole
-  turn-ends none =
-      turn-stops from (count - (done + 1)) c d x so_far now
-      (subst
-      (λ (b : Bool).
-      IsTurn from (step_chosen (number_after x) (ready_list from c)) b c so_far d now) none
-      turn-here)
-      ∙ so_whole
+    -- It took none, and the run has stopped.
+    pub turn-ends : moved ≡ false → ended true now ≡ whole
+    turn-ends none =
+        turn-stops from (count - (done + 1)) c d x so_far now
+        (subst
+        (λ (b : Bool).
+        IsTurn from (step_chosen (number_after x) (ready_list from c)) b c so_far d now) none
+        turn-here)
+        ∙ so_whole

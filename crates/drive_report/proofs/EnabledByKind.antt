@@ -10,7 +10,8 @@ use Rattle.async_shape.specs.Setting.{Setting}
 use Rattle.async_shape.specs.Config.{Config, count_of}
 use Rattle.async_shape.specs.Outcome.{HomeOutcome, RemoteOutcome}
 use Rattle.async_shape.specs.HomeSteps.{home_tau, home_take, home_send, home_drop, up}
-use Rattle.async_shape.specs.RemoteSteps.{remote_tau, remote_send, remote_answer, remote_reply, down}
+use Rattle.async_shape.specs.RemoteSteps.{remote_tau, remote_send, remote_answer, remote_reply}
+use Rattle.async_shape.specs.RemoteSteps.{down}
 use Rattle.async_shape.specs.Next.{StepOutcome, arrival, config_after, home_moved, remote_moved}
 use Rattle.async_shape.specs.Next.{remote_moves, is_enabled}
 use Rattle.async_shape.specs.declared.config.RemoteState.{RemoteState}

@@ -1,19 +1,20 @@
--- Which steps are enabled after a step as they were before it: those at the home after a step at a
--- remote, and those at a remote after a step at the home or at another remote.
+-- Which steps are enabled after a step as they were before it: all but those of the process that
+-- made it, and the arrivals of packets on the links on which it put, or from which it took.
 use Rattle.std.proofs.Common.{◌≡◌, ◌≢◌, ℕ, Bool, true, false, List, Option, Some, None}
-use Rattle.std.proofs.Common.{is_some, slice_get, nat_lt, length, length-set, unwrap_or}
-use Rattle.std.proofs.Common.{refl, sym, ap, if◌then◌else◌, ◌∙◌}
-use Rattle.std.specs.Option.{option_map, option_and_then}
+use Rattle.std.proofs.Common.{is_some, slice_get, nat_lt, length}
+use Rattle.std.proofs.Common.{refl, sym, ap, ap₂, if◌then◌else◌, ◌∙◌, ◌==◌}
+use Rattle.std.specs.Option.{option_map, option_map_or, option_and_then}
 use Rattle.std.proofs.lemmas.Bool.{eqb-false}
-use Rattle.rv_base.proofs.Lists.{slice_get-set_other}
 use Rattle.slot_reserve.specs.declared.held.Held.{Held}
 use Rattle.ordered_links.specs.Link.{Link, Up, Down}
+use Rattle.ordered_links.specs.Lists.{LinkPair, links_at, first_packet}
 use Rattle.ordered_links.specs.declared.packet.Packet.{Packet}
 use Rattle.async_shape.specs.Setting.{Setting}
 use Rattle.async_shape.specs.Config.{Config, count_of}
 use Rattle.async_shape.specs.Outcome.{HomeOutcome, RemoteOutcome}
 use Rattle.async_shape.specs.HomeSteps.{home_tau, home_take, home_send, home_drop, up}
-use Rattle.async_shape.specs.RemoteSteps.{remote_tau, remote_send, remote_answer, remote_reply, down}
+use Rattle.async_shape.specs.RemoteSteps.{remote_tau, remote_send, remote_answer, remote_reply}
+use Rattle.async_shape.specs.RemoteSteps.{down}
 use Rattle.async_shape.specs.Next.{StepOutcome, arrival, config_after, home_moved, remote_moved}
 use Rattle.async_shape.specs.Next.{remote_moves, is_enabled}
 use Rattle.async_shape.specs.Run.{after_step}
@@ -25,109 +26,16 @@ use Rattle.async_shape.specs.declared.config.Waiting.{Waiting}
 use Rattle.async_shape.specs.declared.step.Step.{Step}
 use Rattle.async_shape.specs.declared.step.Step.TheVariants as step
 use Rattle.async_machine.proofs.Enabling.{is_some-map}
+use Rattle.drive_report.specs.Changes.{changed_at_home, changed_from, changed_by_remote, change_at}
+use Rattle.drive_report.specs.Changes.{change_of, IsLeft}
 use Rattle.drive_report.specs.Forms.{step_of}
-use Rattle.drive_report.specs.Rows.{is_at_home, home_changes, remote_changes, site_changes, may_change}
+use Rattle.drive_report.specs.Rows.{is_at_home}
+use Rattle.drive_report.specs.declared.changes.Change.TheVariants as change
 use Rattle.drive_report.specs.declared.forms.Form.{Form}
 use Rattle.drive_report.specs.declared.forms.Form.TheVariants as form
 use Rattle.drive_report.proofs.EnabledByKind.{HomeTau-enabled}
-
--- ---- what a step leaves alone
-
--- home and held requests are as they were, and there are as many remotes, all of which but j are as
--- they were
-pub record KeepsOthers (c d : Config) (j : ℕ) : Type 0 where
-  pub home : d.home ≡ c.home
-  pub held : d.held ≡ c.held
-  pub count : count_of d ≡ count_of c
-  pub others : (q : ℕ) → q ≢ j → slice_get d.remotes q ≡ slice_get c.remotes q
-
--- what a step at this site leaves alone
-abbrev pub Keeps : Config → Config → Site → Type 0
-Keeps c d (AtHome partner) = d.remotes ≡ c.remotes
-Keeps c d (AtRemote j) = KeepsOthers c d j
-Keeps c d (UpFrom j) = d.remotes ≡ c.remotes
-Keeps c d (DownTo j) = KeepsOthers c d j
-
-module _ (c : Config) where
-  -- the configuration that this outcome leaves, if there is one
-  abbrev left_by : Option StepOutcome → Config
-  left_by o = unwrap_or (option_map (config_after c) o) c
-
-  home-keeps : (link : Option Link) (does : Option HomeOutcome)
-      → (left_by (option_map (home_moved c link) does)).remotes ≡ c.remotes
-  home-keeps link None = refl
-  home-keeps link (Some o) = refl
-
-  named-home_keeps : (there : Bool) (link : Option Link) (does : Option HomeOutcome)
-      → (left_by (if there then option_map (home_moved c link) does else None)).remotes
-      ≡ c.remotes
-  named-home_keeps true link does = home-keeps link does
-  named-home_keeps false link does = refl
-
-  -- a packet that arrives at the home
-  up-keeps : (there : Bool) (link : Option Link) (does : Packet → HomeOutcome)
-      (arrived : Option Packet)
-      → (left_by
-      (if there then option_map (λ packet. home_moved c link (does packet)) arrived else None)).remotes
-      ≡ c.remotes
-  up-keeps true link does None = refl
-  up-keeps true link does (Some packet) = refl
-  up-keeps false link does arrived = refl
-
-  nothing-kept : (j : ℕ) → KeepsOthers c c j
-  nothing-kept j =
-      record { home = refl; held = refl; count = refl; others = λ q apart. refl }
-
-  remote-keeps : (link : Option Link) (j : ℕ) (o : Option RemoteOutcome)
-      → KeepsOthers c (left_by (option_map (remote_moved c link j) o)) j
-  remote-keeps link j None = nothing-kept j
-  remote-keeps link j (Some o) = record {
-    home = refl;
-    held = refl;
-    count = length-set c.remotes j o.remote;
-    others = λ q apart. slice_get-set_other c.remotes j q o.remote apart;
-  }
-
-  remotes-keep : (there : Bool) (link : Option Link) (j : ℕ)
-      (does : RemoteState → Option RemoteOutcome) (remote : Option RemoteState)
-      → KeepsOthers c
-      (left_by
-      (if there
-      then option_and_then (λ r. option_map (remote_moved c link j) (does r)) remote else None)) j
-  remotes-keep true link j does None = nothing-kept j
-  remotes-keep true link j does (Some r) = remote-keeps link j (does r)
-  remotes-keep false link j does remote = nothing-kept j
-
-module _ (setting : Setting) (c : Config) where
-  -- What each step leaves alone.
-  pub step-keeps : (s : Step) → Keeps c (after_step setting c s) (site s)
-  step-keeps (step.HomeTau g) = home-keeps c None (home_tau setting c.home c.held g)
-  step-keeps (step.HomeTake j) =
-      named-home_keeps c (nat_lt j (count_of c)) None
-      (home_take setting (count_of c) c.home c.held j)
-  step-keeps (step.HomeSend g j) =
-      named-home_keeps c (nat_lt j (count_of c)) None
-      (home_send setting (count_of c) c.home c.held g j)
-  step-keeps (step.HomeDrop j) =
-      named-home_keeps c (nat_lt j (count_of c)) None
-      (home_drop setting (count_of c) c.home c.held j)
-  step-keeps (step.Up j) =
-      up-keeps c (nat_lt j (count_of c)) (Some (Up j)) (up setting (count_of c) c.home c.held j)
-      (arrival c (Some (Up j)))
-  step-keeps (step.RemoteTau j g) =
-      remotes-keep c (nat_lt j (count_of c)) None j (λ r. remote_tau setting r g)
-      (slice_get c.remotes j)
-  step-keeps (step.RemoteSend j) =
-      remotes-keep c (nat_lt j (count_of c)) None j (remote_send setting j) (slice_get c.remotes j)
-  step-keeps (step.RemoteAnswer j) =
-      remotes-keep c (nat_lt j (count_of c)) None j (remote_answer setting j)
-      (slice_get c.remotes j)
-  step-keeps (step.RemoteReply j) =
-      remotes-keep c (nat_lt j (count_of c)) None j (remote_reply setting j)
-      (slice_get c.remotes j)
-  step-keeps (step.Down j) =
-      remotes-keep c (nat_lt j (count_of c)) (Some (Down j)) j
-      (λ r. option_map (down setting r) (arrival c (Some (Down j)))) (slice_get c.remotes j)
+use Rattle.drive_report.proofs.LeftAlone.{KeepsOthers, KeepsRemotes, KeepsUps, Keeps, IsApart}
+use Rattle.drive_report.proofs.LeftAlone.{step-keeps}
 
 -- ---- what decides whether a step is enabled
 
@@ -140,7 +48,18 @@ abbrev remote_does : ℕ → ℕ → (RemoteState → Option RemoteOutcome) → 
 remote_does n j does remote =
     if nat_lt j n then is_some (option_and_then does remote) else false
 
+-- whether a packet is under way from remote j, of n
+abbrev arrives : ℕ → ℕ → Option Packet → Bool
+arrives n j arrived = if nat_lt j n then is_some arrived else false
+
 module _ (c : Config) where
+  arrives-is : (there : Bool) (does : Packet → StepOutcome) (arrived : Option Packet)
+      → is_some (option_map (config_after c) (if there then option_map does arrived else None))
+      ≡ (if there then is_some arrived else false)
+  arrives-is true does arrived =
+      is_some-map (config_after c) (option_map does arrived) ∙ is_some-map does arrived
+  arrives-is false does arrived = refl
+
   home_does-is : (there : Bool) (link : Option Link) (does : Option HomeOutcome)
       → is_some (option_map (config_after c)
       (if there then option_map (home_moved c link) does else None))
@@ -201,66 +120,140 @@ module _ (setting : Setting) (c d : Config) where
       ∙ home-same (λ n h hs. home_does n q (does n h hs)) home held count
       ∙ sym (home_does-is c (nat_lt q (count_of c)) None (does (count_of c) c.home c.held))
 
-  frame-remote : (j : ℕ) → KeepsOthers c d j → (f : Form) → remote_changes j f ≡ false → (b : ℕ)
+  -- Whether a packet is under way to the home from remote q is as it was.
+  up-same : (q : ℕ) → count_of d ≡ count_of c
+      → (links_at d.links q).up ≡ (links_at c.links q).up
+      → is_enabled setting d (step.Up q) ≡ is_enabled setting c (step.Up q)
+  up-same q count same =
+      arrives-is d (nat_lt q (count_of d))
+      (λ arrived. home_moved d (Some (Up q)) (up setting (count_of d) d.home d.held q arrived))
+      (arrival d (Some (Up q)))
+      ∙ ap₂ (λ (n : ℕ) (packets : List Packet). arrives n q (first_packet packets)) count same
+      ∙ sym (arrives-is c (nat_lt q (count_of c))
+      (λ arrived. home_moved c (Some (Up q)) (up setting (count_of c) c.home c.held q arrived))
+      (arrival c (Some (Up q))))
+
+  -- Remote q is there as it was, and so is a packet that is under way to it.
+  down-same : (q : ℕ) → count_of d ≡ count_of c → slice_get d.remotes q ≡ slice_get c.remotes q
+      → (links_at d.links q).down ≡ (links_at c.links q).down
+      → is_enabled setting d (step.Down q) ≡ is_enabled setting c (step.Down q)
+  down-same q count remote same =
+      let does : List Packet → RemoteState → Option RemoteOutcome =
+      λ packets r. option_map (down setting r) (first_packet packets) in
+      let before = (links_at c.links q).down in
+      remote_does-is d (nat_lt q (count_of d)) (Some (Down q)) q (does (links_at d.links q).down)
+      (slice_get d.remotes q)
+      ∙ ap (λ (packets : List Packet). remote_does (count_of d) q (does packets)
+      (slice_get d.remotes q)) same
+      ∙ ap (λ (n : ℕ). remote_does n q (does before) (slice_get d.remotes q)) count
+      ∙ ap (remote_does (count_of c) q (does before)) remote
+      ∙ sym (remote_does-is c (nat_lt q (count_of c)) (Some (Down q)) q (does before)
+      (slice_get c.remotes q))
+
+  frame-remote : (j : ℕ) → KeepsOthers c d j → (f : Form) (b : ℕ)
+      → IsLeft (changed_by_remote j f) b
       → is_enabled setting d (step_of f b) ≡ is_enabled setting c (step_of f b)
-  frame-remote j keeps form.HomeTau never g =
+  frame-remote j keeps form.HomeTau g left =
       HomeTau-enabled setting d g
       ∙ home-same (λ n h hs. is_some (home_tau setting h hs g)) keeps.home keeps.held keeps.count
       ∙ sym (HomeTau-enabled setting c g)
-  frame-remote j keeps form.HomeTake never q =
+  frame-remote j keeps form.HomeTake q left =
       home_named-same q (λ n h hs. home_take setting n h hs q) keeps.home keeps.held keeps.count
-  frame-remote j keeps (form.HomeSend g) never q =
+  frame-remote j keeps (form.HomeSend g) q left =
       home_named-same q (λ n h hs. home_send setting n h hs g q) keeps.home keeps.held keeps.count
-  frame-remote j keeps form.HomeDrop never q =
+  frame-remote j keeps form.HomeDrop q left =
       home_named-same q (λ n h hs. home_drop setting n h hs q) keeps.home keeps.held keeps.count
-  frame-remote j keeps (form.RemoteTau i) never g =
+  frame-remote j keeps (form.RemoteTau i) g left =
       remote-same None i (λ r. remote_tau setting r g) keeps.count
-      (keeps.others i (eqb-false i j never))
-  frame-remote j keeps form.RemoteSend never q = absurd (cc)
-  frame-remote j keeps form.RemoteAnswer never q = absurd (cc)
-  frame-remote j keeps form.RemoteReply never q = absurd (cc)
-  frame-remote j keeps form.Up never q = absurd (cc)
-  frame-remote j keeps form.Down never q = absurd (cc)
+      (keeps.others i (by (i == j) refl left))
+    where
+      by : (same : Bool) → (i == j) ≡ same
+          → IsLeft (if same then change.All else change.Nothing) g → i ≢ j
+      by true is all = absurd all
+      by false is none = eqb-false i j is
+  frame-remote j keeps form.RemoteSend q left =
+      remote-same None q (remote_send setting q) keeps.count (keeps.others q left)
+  frame-remote j keeps form.RemoteAnswer q left =
+      remote-same None q (remote_answer setting q) keeps.count (keeps.others q left)
+  frame-remote j keeps form.RemoteReply q left =
+      remote-same None q (remote_reply setting q) keeps.count (keeps.others q left)
+  frame-remote j keeps form.Up q left =
+      up-same q keeps.count (ap (λ (pair : LinkPair). pair.up) (keeps.links q left))
+  frame-remote j keeps form.Down q left =
+      down-same q keeps.count (keeps.others q left)
+      (ap (λ (pair : LinkPair). pair.down) (keeps.links q left))
 
   -- ---- after a step at the home
 
-  frame-home : d.remotes ≡ c.remotes → (f : Form) → home_changes f ≡ false → (b : ℕ)
-      → is_enabled setting d (step_of f b) ≡ is_enabled setting c (step_of f b)
-  frame-home same form.HomeTau never b = absurd (cc)
-  frame-home same form.HomeTake never b = absurd (cc)
-  frame-home same (form.HomeSend g) never b = absurd (cc)
-  frame-home same form.HomeDrop never b = absurd (cc)
-  frame-home same (form.RemoteTau j) never g =
-      remote-same None j (λ r. remote_tau setting r g)
-      (ap (λ (rs : List RemoteState). length rs) same)
-      (ap (λ (rs : List RemoteState). slice_get rs j) same)
-  frame-home same form.RemoteSend never j =
-      remote-same None j (remote_send setting j) (ap (λ (rs : List RemoteState). length rs) same)
-      (ap (λ (rs : List RemoteState). slice_get rs j) same)
-  frame-home same form.RemoteAnswer never j =
-      remote-same None j (remote_answer setting j) (ap (λ (rs : List RemoteState). length rs) same)
-      (ap (λ (rs : List RemoteState). slice_get rs j) same)
-  frame-home same form.RemoteReply never j =
-      remote-same None j (remote_reply setting j) (ap (λ (rs : List RemoteState). length rs) same)
-      (ap (λ (rs : List RemoteState). slice_get rs j) same)
-  frame-home same form.Up never j = absurd (cc)
-  frame-home same form.Down never j = absurd (cc)
+  -- the remotes are as they were, and so is what this one may do
+  remotes-same : (q : ℕ) (does : RemoteState → Option RemoteOutcome) → d.remotes ≡ c.remotes
+      → is_some (option_map (config_after d)
+      (if nat_lt q (count_of d) then remote_moves d None q does else None))
+      ≡ is_some (option_map (config_after c)
+      (if nat_lt q (count_of c) then remote_moves c None q does else None))
+  remotes-same q does same =
+      remote-same None q does (ap (λ (rs : List RemoteState). length rs) same)
+      (ap (λ (rs : List RemoteState). slice_get rs q) same)
 
-  frame-at : (where_at : Site) → Keeps c d where_at → (f : Form)
-      → site_changes where_at f ≡ false → (b : ℕ)
+  frame-home : (partner : Option ℕ) → KeepsRemotes c d partner → (f : Form) (b : ℕ)
+      → IsLeft (changed_at_home partner f) b
       → is_enabled setting d (step_of f b) ≡ is_enabled setting c (step_of f b)
-  frame-at (AtHome partner) keeps f never b = frame-home keeps f never b
-  frame-at (AtRemote j) keeps f never b = frame-remote j keeps f never b
-  frame-at (UpFrom j) keeps f never b = frame-home keeps f never b
-  frame-at (DownTo j) keeps f never b = frame-remote j keeps f never b
+  frame-home partner keeps form.HomeTau b left = absurd left
+  frame-home partner keeps form.HomeTake b left = absurd left
+  frame-home partner keeps (form.HomeSend g) b left = absurd left
+  frame-home partner keeps form.HomeDrop b left = absurd left
+  frame-home partner keeps (form.RemoteTau j) g left =
+      remotes-same j (λ r. remote_tau setting r g) keeps.remotes
+  frame-home partner keeps form.RemoteSend j left =
+      remotes-same j (remote_send setting j) keeps.remotes
+  frame-home partner keeps form.RemoteAnswer j left =
+      remotes-same j (remote_answer setting j) keeps.remotes
+  frame-home partner keeps form.RemoteReply j left =
+      remotes-same j (remote_reply setting j) keeps.remotes
+  frame-home partner keeps form.Up j left =
+      up-same j (ap (λ (rs : List RemoteState). length rs) keeps.remotes) (keeps.ups j)
+  frame-home partner keeps form.Down j left =
+      down-same j (ap (λ (rs : List RemoteState). length rs) keeps.remotes)
+      (ap (λ (rs : List RemoteState). slice_get rs j) keeps.remotes)
+      (keeps.downs j (by partner left))
+    where
+      by : (named : Option ℕ) → IsLeft (option_map_or (λ j. change.One j) named change.Nothing) j
+          → IsApart j named
+      by None apart = tt
+      by (Some i) apart = apart
 
--- A step that can't change a form leaves each of its steps enabled as it was.
-pub frame : (setting : Setting) (c : Config) (s : Step) (f : Form) → may_change s f ≡ false
-    → (b : ℕ)
+  frame-arrival : (i : ℕ) → KeepsUps c d i → (f : Form) (b : ℕ) → IsLeft (changed_from i f) b
+      → is_enabled setting d (step_of f b) ≡ is_enabled setting c (step_of f b)
+  frame-arrival i keeps form.HomeTau b left = absurd left
+  frame-arrival i keeps form.HomeTake b left = absurd left
+  frame-arrival i keeps (form.HomeSend g) b left = absurd left
+  frame-arrival i keeps form.HomeDrop b left = absurd left
+  frame-arrival i keeps (form.RemoteTau j) g left =
+      remotes-same j (λ r. remote_tau setting r g) keeps.remotes
+  frame-arrival i keeps form.RemoteSend j left =
+      remotes-same j (remote_send setting j) keeps.remotes
+  frame-arrival i keeps form.RemoteAnswer j left =
+      remotes-same j (remote_answer setting j) keeps.remotes
+  frame-arrival i keeps form.RemoteReply j left =
+      remotes-same j (remote_reply setting j) keeps.remotes
+  frame-arrival i keeps form.Up j left =
+      up-same j (ap (λ (rs : List RemoteState). length rs) keeps.remotes) (keeps.ups j left)
+  frame-arrival i keeps form.Down j left = absurd left
+
+  frame-at : (at : Site) → Keeps c d at → (f : Form) (b : ℕ) → IsLeft (change_at at f) b
+      → is_enabled setting d (step_of f b) ≡ is_enabled setting c (step_of f b)
+  frame-at (AtHome partner) keeps f b left = frame-home partner keeps f b left
+  frame-at (AtRemote j) keeps f b left = frame-remote j keeps f b left
+  frame-at (UpFrom j) keeps f b left = frame-arrival j keeps f b left
+  frame-at (DownTo j) keeps f b left = frame-remote j keeps f b left
+
+-- A step leaves each step enabled as it was that is none of those which it can change.
+pub frame : (setting : Setting) (c : Config) (s : Step) (f : Form) (b : ℕ)
+    → IsLeft (change_of s f) b
     → is_enabled setting (after_step setting c s) (step_of f b)
     ≡ is_enabled setting c (step_of f b)
-frame setting c s f never b =
-    frame-at setting c (after_step setting c s) (site s) (step-keeps setting c s) f never b
+frame setting c s f b left =
+    frame-at setting c (after_step setting c s) (site s) (step-keeps setting c s) f b left
 
 -- ---- while the home waits
 
@@ -270,7 +263,8 @@ pub named-none : (c : Config) (there : Bool) (does : Option HomeOutcome) → doe
     (if there then option_map (home_moved c None) does else None))
     ≡ false
 named-none c there does none =
-    home_does-is c there None does ∙ ap (λ (o : Option HomeOutcome). if there then is_some o else false) none
+    home_does-is c there None does
+    ∙ ap (λ (o : Option HomeOutcome). if there then is_some o else false) none
     ∙ by there
   where
     by : (b : Bool) → (if b then false else false) ≡ false

@@ -5,8 +5,10 @@ pub mod StillRemotes
 pub mod StillHome
 pub mod Still
 pub mod ReadyList
+pub mod LeftAlone
 pub mod EnabledFrames
 pub mod SilentForms
+pub mod EnabledNumbers
 pub mod ReadyRows
 pub mod RowsPushed
 pub mod RowPlaces

@@ -1,5 +1,6 @@
 -- Where the ready list is empty, no step with numbers in range is enabled.
-use Rattle.std.proofs.Common.{◌≡◌, ℕ, zero, suc, ◌+◌, ◌<◌, ◌≤◌, Bool, true, false, List, [], ◌∷◌, ◌++◌}
+use Rattle.std.proofs.Common.{◌≡◌, ℕ, zero, suc, ◌+◌, ◌<◌, ◌≤◌, Bool, true, false, List, [], ◌∷◌}
+use Rattle.std.proofs.Common.{◌++◌}
 use Rattle.std.proofs.Common.{map, filter, flat_map, length, Some, slice_get, refl, sym, ap}
 use Rattle.std.proofs.Common.{subst, arith, ◌∙◌}
 use Rattle.std.specs.List.{AllByRecursion, range_with_len}
@@ -19,7 +20,8 @@ use Rattle.async_shape.specs.Config.{Config, count_of}
 use Rattle.async_shape.specs.Next.{is_enabled}
 use Rattle.async_shape.specs.declared.step.Step.{Step}
 use Rattle.async_shape.specs.declared.step.Step.TheVariants as step
-use Rattle.drive_report.specs.Ready.{most_guards, steps_below, steps_of_two, all_steps, ready_list}
+use Rattle.proto_model.specs.Proper.{most_guards}
+use Rattle.drive_report.specs.Ready.{steps_below, steps_of_two, all_steps, ready_list}
 
 -- ---- lists
 
@@ -219,7 +221,8 @@ pub guard-few : (s : Side) (messages : List MessageInfo) (body : Body) (state g 
     → IsProperBody s messages body → guard_at body state g ≡ Some rule → g < most_guards
 guard-few s messages body state g rule proper there =
     let by =
-    some_and_then (λ (i : StateInfo). slice_get i.rules g) (slice_get body.states state) rule there in
+    some_and_then (λ (i : StateInfo). slice_get i.rules g) (slice_get body.states state) rule
+    there in
     let info : StateInfo = by.0 in
     let is =
     AllByRecursion-at (IsProperState s messages body.vars (length body.states)) body.states state

@@ -7,9 +7,11 @@ use Rattle.std.proofs.lemmas.List.Elements.{filter-append}
 use Rattle.std.proofs.lemmas.List.FromFn.{map-range_with_len_more}
 use Rattle.async_shape.specs.declared.step.Step.{Step}
 use Rattle.async_shape.specs.declared.step.Step.TheVariants as step
-use Rattle.drive_report.specs.Ready.{most_guards, steps_below, steps_of_two, all_steps}
+use Rattle.proto_model.specs.Proper.{most_guards}
+use Rattle.drive_report.specs.Ready.{steps_below, steps_of_two, all_steps}
 use Rattle.drive_report.proofs.NoneReady.{from_tau, from_take, from_send, from_drop}
-use Rattle.drive_report.proofs.NoneReady.{from_remote_tau, from_remote_send, from_answer, from_reply}
+use Rattle.drive_report.proofs.NoneReady.{from_remote_tau, from_remote_send, from_answer}
+use Rattle.drive_report.proofs.NoneReady.{from_reply}
 use Rattle.drive_report.proofs.NoneReady.{from_up, from_down}
 
 map-same : {X : Type 0} (xs : List X) → map (λ x. x) xs ≡ xs
@@ -84,7 +86,8 @@ module _ (test : Step → Bool) (m n : ℕ)
       → up ≡ reply ++ filter test (steps_below n (λ j. step.Up j))
       → down ≡ up ++ filter test (steps_below n (λ j. step.Down j))
       → down ≡ filter test (from_tau m n)
-  kinds-pushed none tau_is take_is send_is drop_is tau_remote_is send_remote_is answer_is reply_is up_is
+  kinds-pushed none tau_is take_is send_is drop_is tau_remote_is send_remote_is answer_is reply_is
+      up_is
       down_is =
       let whole = filter test (from_tau m n) in
       let at_start : s ++ filter test (from_tau m n) ≡ whole =

@@ -1,32 +1,45 @@
--- The rows of all forms: what they hold together, how much, and what refreshing them after a step
+-- The rows of all forms: what they hold together, how much, and what asking them again after a step
 -- gives.
-use Rattle.std.proofs.Common.{◌≡◌, ℕ, suc, ◌+◌, ◌≤◌, Bool, true, false, List, []}
+use Rattle.std.proofs.Common.{◌≡◌, ℕ, zero, suc, ◌+◌, ◌<◌, ◌≤◌, nat_lt, Bool, true, false, List, []}
 use Rattle.std.proofs.Common.{◌∷◌, ◌++◌}
-use Rattle.std.proofs.Common.{length, filter, map, flat_map, cond, refl, sym, ap, ap₂, arith, append-nil}
+use Rattle.std.proofs.Common.{length, filter, map, flat_map, refl, sym, ap, ap₂, arith}
+use Rattle.std.proofs.Common.{append-nil, if◌then◌else◌, take, drop, get_or, subst}
 use Rattle.std.proofs.Common.{◌∙◌}
 use Rattle.std.specs.List.{AllByRecursion, range_with_len}
+use Rattle.std.proofs.lemmas.Bool.{ltb-true, ltb-false}
 use Rattle.std.proofs.lemmas.Grind.{flat_map-append}
 use Rattle.std.proofs.lemmas.List.{length-append, length-map}
 use Rattle.std.proofs.lemmas.List.Elements.{filter-append}
 use Rattle.std.proofs.lemmas.List.FromFn.{length-map-range_with_len}
 use Rattle.rv_base.proofs.Lists.{AllByRecursion-append, AllByRecursion-map}
+use Rattle.proto_model.specs.NumberSets.{numbers_below}
+use Rattle.proto_model.proofs.NumberBits.{numbers_below-lt}
 use Rattle.async_shape.specs.Setting.{Setting}
 use Rattle.async_shape.specs.Config.{Config, count_of}
 use Rattle.async_shape.specs.Next.{is_enabled}
 use Rattle.async_shape.specs.Run.{after_step}
 use Rattle.async_shape.specs.Site.{Site, AtHome, AtRemote, UpFrom, DownTo, site}
 use Rattle.async_shape.specs.declared.step.Step.{Step}
+use Rattle.drive_report.specs.Changes.{change_of, IsLeft}
 use Rattle.drive_report.specs.Forms.{step_of}
-use Rattle.drive_report.specs.Ready.{most_guards, steps_below, steps_of_two, ready_list}
-use Rattle.drive_report.specs.Rows.{may_change, ReadyRow, forms_with, all_forms, enabled_of}
-use Rattle.drive_report.specs.Rows.{steps_in, AreFew, ready_row, ready_rows, refreshed}
+use Rattle.proto_model.specs.Proper.{most_guards}
+use Rattle.drive_report.specs.Ready.{steps_below, steps_of_two, ready_list}
+use Rattle.drive_report.specs.Rows.{forms_with, all_forms, steps_of, steps_in, IsSmall, AreFew}
+use Rattle.drive_report.specs.Rows.{with_answer, ready_row, ready_rows, changed, refreshed}
+use Rattle.drive_report.specs.declared.changes.Change.{Change}
+use Rattle.drive_report.specs.declared.changes.Change.TheVariants as change
 use Rattle.drive_report.specs.declared.forms.Form.{Form}
 use Rattle.drive_report.specs.declared.forms.Form.TheVariants as form
+use Rattle.drive_report.specs.declared.rows.Row.{Row}
 use Rattle.drive_report.proofs.NoneReady.{from_tau, from_take, from_send, from_drop}
-use Rattle.drive_report.proofs.NoneReady.{from_remote_tau, from_remote_send, from_answer, from_reply}
+use Rattle.drive_report.proofs.NoneReady.{from_remote_tau, from_remote_send, from_answer}
+use Rattle.drive_report.proofs.NoneReady.{from_reply}
 use Rattle.drive_report.proofs.NoneReady.{from_up, from_down}
 use Rattle.drive_report.proofs.ReadyList.{all_steps-kinds}
-use Rattle.drive_report.proofs.EnabledFrames.{Keeps, step-keeps, frame}
+use Rattle.drive_report.proofs.EnabledNumbers.{filter-members, filter-map, numbers_below-agree}
+use Rattle.drive_report.proofs.EnabledNumbers.{numbers_below-answered}
+use Rattle.drive_report.proofs.LeftAlone.{Keeps, step-keeps}
+use Rattle.drive_report.proofs.EnabledFrames.{frame}
 
 -- ---- what the rows hold together
 
@@ -44,12 +57,12 @@ flat_map-map give make (item ∷ items) =
     ap (λ rest. give (make item) ++ rest) (flat_map-map give make items)
 
 module _ (setting : Setting) (c : Config) (m n : ℕ) where
-  -- the enabled steps of a form
-  abbrev of : Form × ℕ → List Step
-  of f = enabled_of setting c f.0 f.1
-
   abbrev test : Step → Bool
   test = is_enabled setting c
+
+  -- the enabled steps of a form
+  abbrev of : Form × ℕ → List Step
+  of f = filter test (steps_below f.1 (step_of f.0))
 
   pairs-hold : (make : ℕ → Form) (count : ℕ) (firsts : ℕ)
       → flat_map of (map (λ a. (make a, count)) (range_with_len 0 firsts))
@@ -107,9 +120,21 @@ module _ (setting : Setting) (c : Config) (m n : ℕ) where
       let sends =
       two-hold (λ g. form.HomeSend g) m n ((form.HomeDrop, n) ∷ tau_rest) (from_drop m n) drop in
       let send_rest : List (Form × ℕ) =
-      map (λ (g : ℕ). (form.HomeSend g, n)) (range_with_len 0 m) ++ ((form.HomeDrop, n) ∷ tau_rest) in
+      map (λ (g : ℕ). (form.HomeSend g, n)) (range_with_len 0 m)
+      ++ ((form.HomeDrop, n) ∷ tau_rest) in
       let take = one-holds form.HomeTake n send_rest (from_send m n) sends in
       one-holds form.HomeTau m ((form.HomeTake, n) ∷ send_rest) (from_take m n) take
+
+  row-holds : (f : Form × ℕ) → steps_of (ready_row setting c f) ≡ of f
+  row-holds f =
+      let numbers = range_with_len 0 f.1 in
+      ap (map (step_of f.0)) (filter-members (λ b. test (step_of f.0 b)) f.1 0 f.1 (omega arith))
+      ∙ sym (filter-map test (step_of f.0) numbers)
+
+  rows_hold : (fs : List (Form × ℕ)) → steps_in (map (ready_row setting c) fs) ≡ flat_map of fs
+  rows_hold [] = refl
+  rows_hold (f ∷ fs) =
+      ap₂ (λ (one others : List Step). one ++ others) (row-holds f) (rows_hold fs)
 
 -- The rows hold the ready list.
 pub rows-hold : (setting : Setting) (c : Config)
@@ -117,82 +142,11 @@ pub rows-hold : (setting : Setting) (c : Config)
 unfolding all_forms
 rows-hold setting c =
     let n = count_of c in
-    flat_map-map (λ (row : ReadyRow). row.steps) (ready_row setting c) (forms_with most_guards n)
+    rows_hold setting c most_guards n (forms_with most_guards n)
     ∙ forms-hold setting c most_guards n
     ∙ ap (filter (is_enabled setting c)) (all_steps-kinds n)
 
--- ---- refreshing
-
--- a form that the step can't change has the steps that it had
-filter-same : (test other : Step → Bool) (make : ℕ → Step) (numbers : List ℕ)
-    → ((b : ℕ) → test (make b) ≡ other (make b))
-    → filter test (map make numbers) ≡ filter other (map make numbers)
-filter-same test other make [] same = refl
-filter-same test other make (b ∷ numbers) same =
-    ap
-    (λ (passes : Bool).
-    cond passes (make b ∷ filter test (map make numbers)) (filter test (map make numbers))) (same b)
-    ∙ ap (λ (rest : List Step). cond (other (make b)) (make b ∷ rest) rest)
-    (filter-same test other make numbers same)
-
-map-map : {A B C : Type 0} (give : B → C) (make : A → B) (other : A → C)
-    → ((item : A) → give (make item) ≡ other item) → (items : List A)
-    → map give (map make items) ≡ map other items
-map-map give make other same [] = refl
-map-map give make other same (item ∷ items) =
-    ap₂ (λ one rest. one ∷ rest) (same item) (map-map give make other same items)
-
-module _ (setting : Setting) (c : Config) (s : Step) where
-  row-refreshed : (f : Form × ℕ)
-      → refreshed setting (after_step setting c s) s (ready_row setting c f)
-      ≡ ready_row setting (after_step setting c s) f
-  row-refreshed f = by (may_change s f.0) refl
-    where
-      by : (changes : Bool) → may_change s f.0 ≡ changes
-          → refreshed setting (after_step setting c s) s (ready_row setting c f)
-          ≡ ready_row setting (after_step setting c s) f
-      by true is = rw is refl
-      by false is =
-          let d = after_step setting c s in
-          let kept : enabled_of setting d f.0 f.1 ≡ enabled_of setting c f.0 f.1 =
-          filter-same (is_enabled setting d) (is_enabled setting c) (step_of f.0)
-          (range_with_len 0 f.1) (frame setting c s f.0 is) in
-          rw is
-          (ap (λ (steps : List Step). record { form = f.0; count = f.1; steps = steps }) (sym kept))
-
-  count-kept : count_of (after_step setting c s) ≡ count_of c
-  count-kept = by (site s) (step-keeps setting c s)
-    where
-      by : (at : Site) → Keeps c (after_step setting c s) at
-          → count_of (after_step setting c s) ≡ count_of c
-      by (AtHome partner) keeps = ap (λ rs. length rs) keeps
-      by (AtRemote j) keeps = keeps.count
-      by (UpFrom j) keeps = ap (λ rs. length rs) keeps
-      by (DownTo j) keeps = keeps.count
-
-  -- The rows, refreshed after a step, are the rows after it.
-  pub rows-refreshed : map (refreshed setting (after_step setting c s) s) (ready_rows setting c)
-      ≡ ready_rows setting (after_step setting c s)
-  rows-refreshed =
-      let d = after_step setting c s in
-      map-map (refreshed setting d s) (ready_row setting c) (ready_row setting d) row-refreshed
-      (all_forms (count_of c))
-      ∙ ap (λ (n : ℕ). map (ready_row setting d) (all_forms n)) (sym count-kept)
-
 -- ---- how much they hold
-
-filter-few : (test : Step → Bool) (steps : List Step) → length (filter test steps) ≤ length steps
-filter-few test [] = omega arith
-filter-few test (s ∷ steps) = by (test s) refl (filter-few test steps)
-  where
-    by : (passes : Bool) → test s ≡ passes → length (filter test steps) ≤ length steps
-        → length (filter test (s ∷ steps)) ≤ suc (length steps)
-    by true is few = rw is (omega arith)
-    by false is few = rw is (omega arith)
-
--- at most 64 steps are in the row
-abbrev pub IsFew : ReadyRow → Type 0
-IsFew row = length row.steps ≤ 64
 
 forms-few : (m n : ℕ) → m ≤ 64 → n ≤ 64
     → AllByRecursion (λ (f : Form × ℕ). f.1 ≤ 64) (forms_with m n)
@@ -233,59 +187,128 @@ forms-count m n =
     let sum : suc (suc (m + suc (n + 5))) ≡ m + n + 8 = omega arith in
     ap (λ (k : ℕ). suc (suc k)) both ∙ sum
 
-row-few : (setting : Setting) (c : Config) (f : Form × ℕ) → f.1 ≤ 64
-    → IsFew (ready_row setting c f)
-row-few setting c f few =
-    let steps = steps_below f.1 (step_of f.0) in
-    let less : length (enabled_of setting c f.0 f.1) ≤ length steps =
-    filter-few (is_enabled setting c) steps in
-    let count : length steps ≡ f.1 = length-map-range_with_len (step_of f.0) 0 f.1 in
-    omega arith
-
-rows-each_few : (setting : Setting) (c : Config) (fs : List (Form × ℕ))
+rows-each_small : (setting : Setting) (c : Config) (fs : List (Form × ℕ))
     → AllByRecursion (λ (f : Form × ℕ). f.1 ≤ 64) fs
-    → AllByRecursion IsFew (map (ready_row setting c) fs)
-rows-each_few setting c [] few = tt
-rows-each_few setting c (f ∷ fs) few =
-    (row-few setting c f few.0, rows-each_few setting c fs few.1)
+    → AllByRecursion IsSmall (map (ready_row setting c) fs)
+rows-each_small setting c [] few = tt
+rows-each_small setting c (f ∷ fs) few = (
+  record {
+    count = few.0;
+    enabled = numbers_below-lt (λ b. is_enabled setting c (step_of f.0 b)) f.1;
+  },
+  rows-each_small setting c fs few.1,
+)
+
+all_forms-few : (n : ℕ) → n ≤ 64 → AllByRecursion (λ (f : Form × ℕ). f.1 ≤ 64) (all_forms n)
+unfolding all_forms
+all_forms-few n few = let sixteen : most_guards ≤ 64 = omega arith in forms-few most_guards n sixteen few
 
 pub rows-few : (setting : Setting) (c : Config) → count_of c ≤ 64
     → AreFew (ready_rows setting c)
 unfolding all_forms
 rows-few setting c few =
     let n = count_of c in
-    let sixteen : most_guards ≤ 64 = omega arith in
-    let count : length (forms_with most_guards n) ≡ most_guards + n + 8 = forms-count most_guards n in
+    let count : length (forms_with most_guards n) ≡ most_guards + n + 8 = forms-count most_guards
+    n in
     let same : length (ready_rows setting c) ≡ length (forms_with most_guards n) =
     length-map (forms_with most_guards n) (ready_row setting c) in
     record {
       count = omega arith;
-      each = rows-each_few setting c (forms_with most_guards n) (forms-few most_guards n sixteen few);
+      each = rows-each_small setting c (forms_with most_guards n) (all_forms-few n few);
     }
 
--- ---- rows that hold nothing
+-- ---- asking again
 
-filter-never : (test : Step → Bool) (make : ℕ → Step) (numbers : List ℕ)
-    → ((b : ℕ) → test (make b) ≡ false) → filter test (map make numbers) ≡ []
-filter-never test make [] never = refl
-filter-never test make (b ∷ numbers) never = rw (never b) (filter-never test make numbers never)
+-- what each item with the property gives
+map-map : {A B C : Type 0} (P : A → Type 0) (give : B → C) (make : A → B) (other : A → C)
+    → ((item : A) → P item → give (make item) ≡ other item) → (items : List A)
+    → AllByRecursion P items → map give (map make items) ≡ map other items
+map-map P give make other same [] each = refl
+map-map P give make other same (item ∷ items) each =
+    ap₂ (λ one rest. one ∷ rest) (same item each.0) (map-map P give make other same items each.1)
 
--- Where no step of the form is enabled, none is.
-pub never-enabled : (setting : Setting) (c : Config) (f : Form)
-    → ((b : ℕ) → is_enabled setting c (step_of f b) ≡ false) → (count : ℕ)
-    → enabled_of setting c f count ≡ []
-never-enabled setting c f never count =
-    filter-never (is_enabled setting c) (step_of f) (range_with_len 0 count) never
+module _ (setting : Setting) (c : Config) (s : Step) where
+  -- what is asked of form f before the step, and after it
+  module _ (f : Form) (n : ℕ) (few : n ≤ 64) where
+    abbrev before : ℕ → Bool
+    before b = is_enabled setting c (step_of f b)
 
--- Refreshed after a step that led from one configuration to another, in the same setting, they are the
--- rows there.
-pub rows-after : (from of : Setting) (c d : Config) (s : Step) (old new : List ReadyRow) → of ≡ from
-    → d ≡ after_step from c s → old ≡ ready_rows from c → new ≡ map (refreshed of d s) old
-    → new ≡ ready_rows of d
-rows-after from of c d s old new same stepped were are =
+    abbrev after : ℕ → Bool
+    after b = is_enabled setting (after_step setting c s) (step_of f b)
+
+    abbrev row_of : ℕ → Row
+    row_of set = record { form = f; count = n; enabled = set }
+
+    row-changed : (what : Change) → ((b : ℕ) → IsLeft what b → after b ≡ before b)
+        → changed setting (after_step setting c s) what (row_of (numbers_below before n))
+        ≡ row_of (numbers_below after n)
+    row-changed change.Nothing left =
+        ap row_of (numbers_below-agree before after n (λ b below. sym (left b tt)))
+    row-changed (change.One j) left = by (nat_lt j n) refl
+      where
+        by : (within : Bool) → nat_lt j n ≡ within
+            → (if within
+            then row_of (with_answer (numbers_below before n) j (after j))
+            else row_of (numbers_below before n))
+            ≡ row_of (numbers_below after n)
+        by true is = ap row_of
+            (numbers_below-answered before after n j few (ltb-true j n is) left)
+        by false is =
+            let above : n ≤ j = ltb-false j n is in
+            ap row_of
+            (numbers_below-agree before after n
+            (λ b below. sym (left b (λ same. absurd (omega (arith, same))))))
+    row-changed change.All left = refl
+
+  row-refreshed : (f : Form × ℕ) → f.1 ≤ 64
+      → refreshed setting (after_step setting c s) s (ready_row setting c f)
+      ≡ ready_row setting (after_step setting c s) f
+  row-refreshed f few =
+      row-changed f.0 f.1 few (change_of s f.0) (frame setting c s f.0)
+
+  count-kept : count_of (after_step setting c s) ≡ count_of c
+  count-kept = by (site s) (step-keeps setting c s)
+    where
+      by : (at : Site) → Keeps c (after_step setting c s) at
+          → count_of (after_step setting c s) ≡ count_of c
+      by (AtHome partner) keeps = ap (λ rs. length rs) keeps.remotes
+      by (AtRemote j) keeps = keeps.count
+      by (UpFrom j) keeps = ap (λ rs. length rs) keeps.remotes
+      by (DownTo j) keeps = keeps.count
+
+  -- The rows, asked again after a step, are the rows after it.
+  pub rows-refreshed : count_of c ≤ 64
+      → map (refreshed setting (after_step setting c s) s) (ready_rows setting c)
+      ≡ ready_rows setting (after_step setting c s)
+  rows-refreshed few =
+      let d = after_step setting c s in
+      map-map (λ (f : Form × ℕ). f.1 ≤ 64) (refreshed setting d s) (ready_row setting c)
+      (ready_row setting d) row-refreshed (all_forms (count_of c))
+      (all_forms-few (count_of c) few)
+      ∙ ap (λ (n : ℕ). map (ready_row setting d) (all_forms n)) (sym count-kept)
+
+-- Where the rows before the next one are asked again, this one is as it was, and so is small.
+pub row-next : (give : Row → Row) (rows old : List Row) (i : ℕ) (other : Row) → i < length rows
+    → old ≡ map give (take i rows) ++ drop i rows → AllByRecursion IsSmall rows
+    → (get_or old i other).count ≤ 64
+row-next give rows old i other within so_far small =
+    subst (λ (now : List Row). (get_or now i other).count ≤ 64) (sym so_far) (by rows i within small)
+  where
+    by : (rows : List Row) (i : ℕ) → i < length rows → AllByRecursion IsSmall rows
+        → (get_or (map give (take i rows) ++ drop i rows) i other).count ≤ 64
+    by [] i within small = absurd (omega arith)
+    by (row ∷ rows) zero within small = small.0.count
+    by (row ∷ rows) (suc i) within small = by rows i (omega arith) small.1
+
+-- Asked again after a step that led from one configuration to another, in the same setting, they are
+-- the rows there.
+pub rows-after : (from of : Setting) (c d : Config) (s : Step) (old new : List Row)
+    → count_of c ≤ 64 → of ≡ from → d ≡ after_step from c s → old ≡ ready_rows from c
+    → new ≡ map (refreshed of d s) old → new ≡ ready_rows of d
+rows-after from of c d s old new few same stepped were are =
     are
     ∙ ap (map (refreshed of d s)) were
     ∙ ap₂ (λ (setting : Setting) (e : Config). map (refreshed setting e s) (ready_rows from c)) same
     stepped
-    ∙ rows-refreshed from c s
+    ∙ rows-refreshed from c s few
     ∙ sym (ap₂ ready_rows same stepped)

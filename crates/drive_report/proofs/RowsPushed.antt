@@ -3,49 +3,50 @@ use Rattle.std.proofs.Common.{◌≡◌, ℕ, ◌+◌, List, [], ◌∷◌, ◌+
 use Rattle.std.proofs.Common.{append-nil, ◌∙◌}
 use Rattle.std.specs.List.{range_with_len}
 use Rattle.std.proofs.lemmas.List.{map-append}
-use Rattle.drive_report.specs.Ready.{most_guards}
-use Rattle.drive_report.specs.Rows.{ReadyRow, forms_with, all_forms}
+use Rattle.proto_model.specs.Proper.{most_guards}
+use Rattle.drive_report.specs.Rows.{forms_with, all_forms}
+use Rattle.drive_report.specs.declared.rows.Row.{Row}
 use Rattle.drive_report.specs.declared.forms.Form.{Form}
 use Rattle.drive_report.specs.declared.forms.Form.TheVariants as form
 use Rattle.drive_report.proofs.ReadyList.{range-more}
 
 -- one more row of a kind
-pub pair-row_pushed : (give : Form × ℕ → ReadyRow) (make : ℕ → Form × ℕ) (i : ℕ)
-    (start old new : List ReadyRow)
+pub pair-row_pushed : (give : Form × ℕ → Row) (make : ℕ → Form × ℕ) (i : ℕ)
+    (start old new : List Row)
     → old ≡ start ++ map give (map make (range_with_len 0 i)) → new ≡ old ++ give (make i) ∷ []
     → new ≡ start ++ map give (map make (range_with_len 0 (i + 1)))
 pair-row_pushed give make i start old new so_far more =
     let before = range_with_len 0 i in
     more
-    ∙ ap (λ (rows : List ReadyRow). rows ++ give (make i) ∷ []) so_far
+    ∙ ap (λ (rows : List Row). rows ++ give (make i) ∷ []) so_far
     ∙ append_assoc start (map give (map make before)) (give (make i) ∷ [])
-    ∙ ap (λ (rows : List ReadyRow). start ++ rows)
+    ∙ ap (λ (rows : List Row). start ++ rows)
     (sym (ap (λ (js : List ℕ). map give (map make js)) (range-more i)
     ∙ ap (map give) (map-append make before (i ∷ []))
     ∙ map-append give (map make before) (make i ∷ [])))
 
-module _ (give : Form × ℕ → ReadyRow) (whole : List ReadyRow) where
+module _ (give : Form × ℕ → Row) (whole : List Row) where
   -- The rows so far and those to come are the whole, and so they are after one more row.
-  one-row_pushed : (old new : List ReadyRow) (f : Form × ℕ) (rest : List (Form × ℕ))
+  one-row_pushed : (old new : List Row) (f : Form × ℕ) (rest : List (Form × ℕ))
       → old ++ map give (f ∷ rest) ≡ whole → new ≡ old ++ give f ∷ []
       → new ++ map give rest ≡ whole
   one-row_pushed old new f rest so_far more =
-      ap (λ (rows : List ReadyRow). rows ++ map give rest) more
+      ap (λ (rows : List Row). rows ++ map give rest) more
       ∙ append_assoc old (give f ∷ []) (map give rest) ∙ so_far
 
   -- and after more rows
-  rows-pushed : (old new : List ReadyRow) (fs rest : List (Form × ℕ))
+  rows-pushed : (old new : List Row) (fs rest : List (Form × ℕ))
       → old ++ map give (fs ++ rest) ≡ whole → new ≡ old ++ map give fs
       → new ++ map give rest ≡ whole
   rows-pushed old new fs rest so_far more =
-      ap (λ (rows : List ReadyRow). rows ++ map give rest) more
+      ap (λ (rows : List Row). rows ++ map give rest) more
       ∙ append_assoc old (map give fs) (map give rest)
-      ∙ ap (λ (rows : List ReadyRow). old ++ rows) (sym (map-append give fs rest)) ∙ so_far
+      ∙ ap (λ (rows : List Row). old ++ rows) (sym (map-append give fs rest)) ∙ so_far
 
--- The rows of all kinds, pushed one after the other, of m guards and n remotes: s are the rows before
--- them, and each other list is that after a kind.
-pub all-rows_pushed : (give : Form × ℕ → ReadyRow) (m n : ℕ)
-    (s tau take send drop tau_remote send_remote answer reply up down : List ReadyRow)
+-- The rows of all kinds, pushed one after the other, of m guards and n remotes: s are the rows
+-- before them, and each other list is that after a kind.
+pub all-rows_pushed : (give : Form × ℕ → Row) (m n : ℕ)
+    (s tau take send drop tau_remote send_remote answer reply up down : List Row)
     → s ≡ [] → tau ≡ s ++ give (form.HomeTau, m) ∷ []
     → take ≡ tau ++ give (form.HomeTake, n) ∷ []
     → send ≡ take ++ map give (map (λ g. (form.HomeSend g, n)) (range_with_len 0 m))
@@ -56,7 +57,8 @@ pub all-rows_pushed : (give : Form × ℕ → ReadyRow) (m n : ℕ)
     → reply ≡ answer ++ give (form.RemoteReply, n) ∷ []
     → up ≡ reply ++ give (form.Up, n) ∷ []
     → down ≡ up ++ give (form.Down, n) ∷ [] → down ≡ map give (forms_with m n)
-all-rows_pushed give m n s tau take send drop tau_remote send_remote answer reply up down none tau_is
+all-rows_pushed give m n s tau take send drop tau_remote send_remote answer reply up down none
+    tau_is
     take_is send_is drop_is tau_remote_is send_remote_is answer_is reply_is up_is down_is =
     let whole = map give (forms_with m n) in
     let from_up : List (Form × ℕ) = (form.Up, n) ∷ (form.Down, n) ∷ [] in
@@ -67,14 +69,15 @@ all-rows_pushed give m n s tau take send drop tau_remote send_remote answer repl
     let sends = map (λ (g : ℕ). (form.HomeSend g, n)) (range_with_len 0 m) in
     let from_sends : List (Form × ℕ) = sends ++ ((form.HomeDrop, n) ∷ from_taus) in
     let at_start : s ++ map give (forms_with m n) ≡ whole =
-    ap (λ (rows : List ReadyRow). rows ++ whole) none in
+    ap (λ (rows : List Row). rows ++ whole) none in
     let at_tau =
     one-row_pushed give whole s tau (form.HomeTau, m) ((form.HomeTake, n) ∷ from_sends) at_start
     tau_is in
     let at_take = one-row_pushed give whole tau take (form.HomeTake, n) from_sends at_tau take_is in
     let at_send =
     rows-pushed give whole take send sends ((form.HomeDrop, n) ∷ from_taus) at_take send_is in
-    let at_drop = one-row_pushed give whole send drop (form.HomeDrop, n) from_taus at_send drop_is in
+    let at_drop = one-row_pushed give whole send drop (form.HomeDrop, n) from_taus at_send
+    drop_is in
     let at_tau_remote =
     rows-pushed give whole drop tau_remote taus ((form.RemoteSend, n) ∷ from_answer) at_drop
     tau_remote_is in

@@ -1,5 +1,5 @@
--- Forms of which no step is enabled: sends by a guard that is no output, and local steps of a remote
--- that isn't idle.
+-- Forms of which no step is enabled: sends by a guard that is no output, and local steps of a
+-- remote that isn't idle.
 use Rattle.std.proofs.Common.{◌≡◌, ℕ, ◌<◌, Bool, true, false, List, Option, Some, None, is_some}
 use Rattle.std.proofs.Common.{slice_index_or, nat_lt, refl, ap, cond, ◌∙◌}
 use Rattle.std.specs.Option.{option_map, option_map_or, option_and_then}

@@ -57,7 +57,8 @@ use Rattle.drive_report.proofs.StillHome.{still-idle, none-completes, not-owed, 
 one-guard : (body : Body) (state g : ℕ) (only rule : Rule) → guards_of body state ≡ only ∷ []
     → guard_at body state g ≡ Some rule → only ≡ rule
 one-guard body state g only rule one there =
-    at g (ap (λ (rules : List Rule). slice_get rules g) (sym one) ∙ guards_of-at body state g ∙ there)
+    at g (ap (λ (rules : List Rule). slice_get rules g) (sym one) ∙ guards_of-at body state g
+    ∙ there)
   where
     at : (i : ℕ) → slice_get (only ∷ []) i ≡ Some rule → only ≡ rule
     at zero is = same_Some only rule is
@@ -103,7 +104,8 @@ module _ (setting : Setting) (proper : IsProper setting.protocol) (c : Config)
         let protocol = setting.protocol in
         let v = view_at protocol c j in
         let w =
-        waits-to_give protocol v q proper (IsShaped-case setting c shaped j within).typed is.fits.0 in
+        waits-to_give protocol v q proper (IsShaped-case setting c shaped j within).typed
+        is.fits.0 in
         let at : guard_at protocol.remote w.guard.state r ≡ Some rule =
         subst (λ (p : Part). guard_at protocol.remote p.state r ≡ Some rule)
         (part-in_phase setting v (RequestIsHeld q None) w.guard is w.waits) there in
@@ -121,7 +123,8 @@ module _ (setting : Setting) (proper : IsProper setting.protocol) (c : Config)
         let protocol = setting.protocol in
         let v = view_at protocol c j in
         let w =
-        waits-to_give protocol v q proper (IsShaped-case setting c shaped j within).typed is.fits.0 in
+        waits-to_give protocol v q proper (IsShaped-case setting c shaped j within).typed
+        is.fits.0 in
         let at : guard_at protocol.remote w.rule.next r ≡ Some rule =
         subst (λ (p : Part). guard_at protocol.remote p.state r ≡ Some rule)
         (part-in_phase setting v (ReplyIsOwed q None p) w.guard is w.waits
@@ -160,7 +163,8 @@ module _ (setting : Setting) (proper : IsProper setting.protocol) (c : Config)
             RemoteTau-enabled setting c j v.remote (remote-there setting proper c none j within) r
             ∙ remote_tau-does setting j v.remote at.0 at.1 r rule here tau opens in
             let few =
-            guard-few side.Remote protocol.messages protocol.remote at.0 r rule proper.remote here in
+            guard-few side.Remote protocol.messages protocol.remote at.0 r rule proper.remote
+            here in
             let not = none.none (step.RemoteTau j r) (within, few) in
             cc
 
@@ -208,8 +212,10 @@ module _ (setting : Setting) (proper : IsProper setting.protocol) (c : Config)
       → TauRemoteStep setting.protocol (abstraction setting.protocol c) j g next → ⊥
   no-tau_remote j g next moved =
       let at = stands-there j moved.remote moved.there in
-      let takes : TakesTau setting.protocol.remote (remote_stands setting.protocol c j) g moved.rule =
-      subst (λ (p : Part). TakesTau setting.protocol.remote p g moved.rule) (sym at.1) moved.takes in
+      let takes : TakesTau setting.protocol.remote (remote_stands setting.protocol c j) g moved.rule
+      =
+      subst (λ (p : Part). TakesTau setting.protocol.remote p g moved.rule) (sym at.1)
+      moved.takes in
       no-tau j g moved.rule at.0 takes.there takes.tau takes.passes
 
   no-up : (state j h r : ℕ) (next : RvConfig) → c.home.place ≡ Idle state

@@ -1,5 +1,5 @@
--- Where no step is enabled, the home is idle, no held request completes a guard, and each target of an
--- open output is owed a message.
+-- Where no step is enabled, the home is idle, no held request completes a guard, and each target of
+-- an open output is owed a message.
 use Rattle.std.proofs.Common.{◌≡◌, ◌≢◌, ℕ, ◌+◌, ◌<◌, ◌≤◌, Bool, true, false, ◌||◌, List, [], ◌∷◌}
 use Rattle.std.proofs.Common.{length, Option, Some, None, nat_le, refl, sym, ap, arith, ◌∙◌}
 use Rattle.std.proofs.Common.{if◌then◌else◌}
@@ -41,12 +41,13 @@ use Rattle.async_shape.proofs.GuardsFound.{guards_of-at}
 use Rattle.async_shape.proofs.Phases.{IsIn}
 use Rattle.async_shape.proofs.ShapeParts.{IsShaped-whole}
 use Rattle.async_shape.proofs.WaitedMessages.{given-out}
-use Rattle.drive_report.specs.Ready.{most_guards}
+use Rattle.proto_model.specs.Proper.{most_guards}
 use Rattle.drive_report.proofs.NoneReady.{NoneEnabled, range-at, guard-few}
 use Rattle.drive_report.proofs.EnabledByKind.{HomeTake-enabled, HomeSend-enabled, HomeDrop-enabled}
 use Rattle.drive_report.proofs.Doing.{home_take-does, home_send-pays, home_send-asks}
 use Rattle.drive_report.proofs.Doing.{home_drop-does}
-use Rattle.drive_report.proofs.StillRemotes.{StillPhase, StillRests, StillHeld, StillOwed, still-phase}
+use Rattle.drive_report.proofs.StillRemotes.{StillPhase, StillRests, StillHeld, StillOwed}
+use Rattle.drive_report.proofs.StillRemotes.{still-phase}
 
 -- ---- held requests
 
@@ -133,7 +134,8 @@ module _ (setting : Setting) (proper : IsProper setting.protocol) (c : Config)
             some-first (completes n setting.protocol.home c.home) c.held held.one_of_each is in
             let from = one.0.from in
             let within : from < n =
-            AllByRecursion-first_of (λ (r : Held). r.from < n) from c.held one.0 held.senders one.1 in
+            AllByRecursion-first_of (λ (r : Held). r.from < n) from c.held one.0 held.senders
+            one.1 in
             let enabled : is_enabled setting c (step.HomeTake from) ≡ true =
             HomeTake-enabled setting c from within
             ∙ home_take-does setting n c.home c.held state idle from one.0 one.1 one.2 in
@@ -181,19 +183,23 @@ module _ (setting : Setting) (proper : IsProper setting.protocol) (c : Config)
           let from = request.from in
           let held = (IsShaped-whole setting c shaped).held in
           let there_is : from < n =
-          AllByRecursion-first_of (λ (r : Held). r.from < n) from c.held request held.senders first in
-          let may : may_drop setting n c.home c.held from (guards_of setting.protocol.home state) ≡ true =
+          AllByRecursion-first_of (λ (r : Held). r.from < n) from c.held request held.senders
+          first in
+          let may : may_drop setting n c.home c.held from (guards_of setting.protocol.home state)
+          ≡ true =
           rw (some-output (has_target n c.home.vars) has-target, reason) refl in
           let enabled : is_enabled setting c (step.HomeDrop from) ≡ true =
           HomeDrop-enabled setting c from there_is
-          ∙ home_drop-does setting n c.home c.held state idle from request first none-completes may in
+          ∙ home_drop-does setting n c.home c.held state idle from request first none-completes
+          may in
           let not = none.none (step.HomeDrop from) there_is in
           cc
 
       -- nothing is sent
       few : h < most_guards
       few =
-          guard-few side.Home setting.protocol.messages setting.protocol.home state h rule proper.home
+          guard-few side.Home setting.protocol.messages setting.protocol.home state h rule
+          proper.home
           there
 
       -- The home doesn't owe j this message.

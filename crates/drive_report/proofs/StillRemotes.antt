@@ -84,11 +84,15 @@ remote-gives protocol state g rule vars proper there output =
     (remote_output-up protocol state g rule proper of.0 there of.1)
   where
     by : (m : ℕ) → message_out rule.kind ≡ Some m → (o : Option MessageInfo)
-        → slice_get protocol.messages m ≡ o → option_map_or (λ (i : MessageInfo). i.up) o false ≡ true
+        → slice_get protocol.messages m ≡ o → option_map_or (λ (i : MessageInfo). i.up) o false
+        ≡ true
         → (message : ℕ × Value) × (given protocol.messages vars rule.kind ≡ Some message)
     by m out None is up = absurd (cc)
-    by m out (Some info) is up =
-        ((m, sends vars rule.kind info.carries), given-there protocol.messages vars rule m info out is)
+    by m out (Some info) is up = (
+      (m, sends vars rule.kind info.carries),
+      given-there protocol.messages vars rule m info out
+          is,
+    )
 
 module _ (setting : Setting) (proper : IsProper setting.protocol) (c : Config)
     (none : NoneEnabled setting c) (j : ℕ) (within : j < count_of c) where

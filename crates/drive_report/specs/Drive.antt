@@ -6,10 +6,9 @@ use Rattle.std.specs.Option.{option_map_or}
 use Rattle.ordered_links.specs.Link.{Up}
 use Rattle.ordered_links.specs.Lists.{LinkPair}
 use Rattle.ordered_links.specs.declared.packet.Packet.{Packet}
-use Rattle.ordered_links.specs.declared.packet.Packet.TheVariants as packet
 use Rattle.async_shape.specs.Setting.{Setting}
 use Rattle.async_shape.specs.Config.{Config, start}
-use Rattle.async_shape.specs.Bounded.{is_request}
+use Rattle.ordered_links.specs.Packets.{is_request, is_ack, is_nack, is_reply}
 use Rattle.async_shape.specs.Next.{put_of, arriving}
 use Rattle.async_shape.specs.Run.{after_step, run}
 use Rattle.async_shape.specs.declared.config.HomePlace.{HomePlace}
@@ -83,27 +82,6 @@ abbrev pub is_event : Told → Bool
 is_event Refused = false
 is_event Stutter = false
 is_event (Is e) = true
-
--- the packet is an ack
-abbrev pub is_ack : Packet → Bool
-is_ack (packet.Request m v) = false
-is_ack packet.Ack = true
-is_ack packet.Nack = false
-is_ack (packet.Reply p v) = false
-
--- the packet is a nack
-abbrev pub is_nack : Packet → Bool
-is_nack (packet.Request m v) = false
-is_nack packet.Ack = false
-is_nack packet.Nack = true
-is_nack (packet.Reply p v) = false
-
--- the packet is a reply
-abbrev pub is_reply : Packet → Bool
-is_reply (packet.Request m v) = false
-is_reply packet.Ack = false
-is_reply packet.Nack = false
-is_reply (packet.Reply p v) = true
 
 -- the home waits on remote j
 abbrev pub waits_on : ℕ → HomePlace → Bool

@@ -4,4 +4,5 @@ pub mod SummaryText
 pub mod Forms
 pub mod Counted
 pub mod Turns
+pub mod Changes
 pub mod Rows

@@ -2,6 +2,7 @@
 use Rattle.std.specs.Prelude.{ℕ, List, ◌++◌, map, filter, flat_map}
 use Rattle.std.specs.List.{range_with_len}
 use Rattle.proto_model.specs.Numbered.{NumberedProtocol}
+use Rattle.proto_model.specs.Proper.{most_guards}
 use Rattle.proto_model.specs.Rendezvous.{RvStep}
 use Rattle.proto_model.specs.declared.rendezvous.RvConfig.{RvConfig}
 use Rattle.proto_model.specs.declared.rendezvous.Event.{Event}
@@ -10,10 +11,6 @@ use Rattle.async_shape.specs.Config.{Config, count_of}
 use Rattle.async_shape.specs.Next.{is_enabled}
 use Rattle.async_shape.specs.declared.step.Step.{Step}
 use Rattle.async_shape.specs.declared.step.Step.TheVariants as step
-
--- The most guards that a state may have.
-abbrev pub most_guards : ℕ
-most_guards = 16
 
 -- the steps of this form with each number below n
 abbrev pub steps_below : ℕ → (ℕ → Step) → List Step

@@ -1,22 +1,26 @@
--- The enabled steps kept by form, and which forms a step can change.
-use Rattle.std.specs.Prelude.{ℕ, ◌==◌, Bool, true, false, if◌then◌else◌, List, [], ◌∷◌, ◌++◌}
-use Rattle.std.specs.Prelude.{◌≤◌, length, map, filter, flat_map}
+-- The enabled steps, kept by form.
+use Rattle.std.specs.Prelude.{ℕ, ◌^◌, ◌<◌, ◌≤◌, nat_lt, Bool, true, false, if◌then◌else◌}
+use Rattle.std.specs.Prelude.{List, [], ◌∷◌, ◌++◌, length, map, filter, flat_map}
 use Rattle.std.specs.List.{range_with_len, AllByRecursion}
 use Rattle.std.specs.Option.{option_map_or}
 use Rattle.proto_model.specs.Guards.{guard_at}
+use Rattle.proto_model.specs.NumberSets.{has_number, with_number, without_number, numbers_below}
 use Rattle.proto_model.specs.Proper.{is_output_kind}
 use Rattle.proto_model.specs.declared.numbered.Body.{Body}
 use Rattle.async_shape.specs.Setting.{Setting}
 use Rattle.async_shape.specs.Config.{Config, count_of}
 use Rattle.async_shape.specs.Next.{is_enabled}
-use Rattle.async_shape.specs.Site.{Site, AtHome, AtRemote, UpFrom, DownTo, site}
 use Rattle.async_shape.specs.declared.step.Step.{Step}
-use Rattle.drive_report.specs.Ready.{most_guards, steps_below}
+use Rattle.proto_model.specs.Proper.{most_guards}
+use Rattle.drive_report.specs.Changes.{change_of}
 use Rattle.drive_report.specs.Forms.{step_of}
+use Rattle.drive_report.specs.declared.changes.Change.{Change}
+use Rattle.drive_report.specs.declared.changes.Change.TheVariants as change
 use Rattle.drive_report.specs.declared.forms.Form.{Form}
 use Rattle.drive_report.specs.declared.forms.Form.TheVariants as form
+use Rattle.drive_report.specs.declared.rows.Row.{Row}
 
--- ---- what a step can change
+-- ---- forms of which it is seen at once that no step is enabled
 
 -- the steps of this form take place at the home, and take no packet
 abbrev pub is_at_home : Form → Bool
@@ -31,44 +35,6 @@ is_at_home form.RemoteReply = false
 is_at_home form.Up = false
 is_at_home form.Down = false
 
--- A step at the home can change which steps of this form are enabled: those of the home itself, and
--- arrivals.
-abbrev pub home_changes : Form → Bool
-home_changes form.HomeTau = true
-home_changes form.HomeTake = true
-home_changes (form.HomeSend g) = true
-home_changes form.HomeDrop = true
-home_changes (form.RemoteTau j) = false
-home_changes form.RemoteSend = false
-home_changes form.RemoteAnswer = false
-home_changes form.RemoteReply = false
-home_changes form.Up = true
-home_changes form.Down = true
-
--- A step at remote j can: those of this remote, and arrivals.
-abbrev pub remote_changes : ℕ → Form → Bool
-remote_changes j form.HomeTau = false
-remote_changes j form.HomeTake = false
-remote_changes j (form.HomeSend g) = false
-remote_changes j form.HomeDrop = false
-remote_changes j (form.RemoteTau i) = i == j
-remote_changes j form.RemoteSend = true
-remote_changes j form.RemoteAnswer = true
-remote_changes j form.RemoteReply = true
-remote_changes j form.Up = true
-remote_changes j form.Down = true
-
--- a step at this site can
-abbrev pub site_changes : Site → Form → Bool
-site_changes (AtHome partner) f = home_changes f
-site_changes (AtRemote j) f = remote_changes j f
-site_changes (UpFrom j) f = home_changes f
-site_changes (DownTo j) f = remote_changes j f
-
--- the step can change which steps of this form are enabled
-abbrev pub may_change : Step → Form → Bool
-may_change s f = site_changes (site s) f
-
 -- guard g of the state is an output
 abbrev pub is_output_at : Body → ℕ → ℕ → Bool
 is_output_at body state g =
@@ -76,20 +42,28 @@ is_output_at body state g =
 
 -- ---- the rows
 
--- a form, how many steps have it, and those of them that are enabled
-pub record ReadyRow : Type 0 where
-  pub form : Form
-  pub count : ℕ
-  pub steps : List Step
+-- those steps of a row's form whose number is in its set, among so many numbers from this one on
+abbrev pub steps_from : Row → ℕ → ℕ → List Step
+steps_from row first count =
+    map (step_of row.form) (filter (has_number row.enabled) (range_with_len first count))
+
+-- the steps that a row holds
+abbrev pub steps_of : Row → List Step
+steps_of row = steps_from row 0 row.count
 
 -- the steps that rows hold together
-abbrev pub steps_in : List ReadyRow → List Step
-steps_in rows = flat_map (λ row. row.steps) rows
+abbrev pub steps_in : List Row → List Step
+steps_in rows = flat_map steps_of rows
 
--- There are at most 88 rows, and each holds at most 64 steps.
-pub record AreFew (rows : List ReadyRow) : Type 0 where
+-- A row has at most 64 steps, and in its set are numbers below their count alone.
+pub record IsSmall (row : Row) : Type 0 where
+  pub count : row.count ≤ 64
+  pub enabled : row.enabled < 2 ^ row.count
+
+-- There are at most 88 rows, and each is small.
+pub record AreFew (rows : List Row) : Type 0 where
   pub count : length rows ≤ 88
-  pub each : AllByRecursion (λ (row : ReadyRow). length row.steps ≤ 64) rows
+  pub each : AllByRecursion IsSmall rows
 
 -- all forms of step of n remotes with m guards, in order, each with the number of its steps
 abbrev pub forms_with : ℕ → ℕ → List (Form × ℕ)
@@ -105,19 +79,37 @@ forms_with m n =
 unfoldable pub all_forms : ℕ → List (Form × ℕ)
 all_forms n = forms_with most_guards n
 
+-- the set, with the number where it is to have it, and else without it
+abbrev pub with_answer : ℕ → ℕ → Bool → ℕ
+with_answer set j answer = if answer then with_number set j else without_number set j
+
 module _ (setting : Setting) (c : Config) where
-  -- the steps of a form that are enabled
-  abbrev pub enabled_of : Form → ℕ → List Step
-  enabled_of f count = filter (is_enabled setting c) (steps_below count (step_of f))
+  -- the set of the numbers below the count whose steps of the form are enabled
+  abbrev pub enabled_of : Form → ℕ → ℕ
+  enabled_of f count = numbers_below (λ b. is_enabled setting c (step_of f b)) count
 
   -- the row of a form with so many steps
-  abbrev pub ready_row : Form × ℕ → ReadyRow
-  ready_row of = record { form = of.0; count = of.1; steps = enabled_of of.0 of.1 }
+  abbrev pub ready_row : Form × ℕ → Row
+  ready_row of = record { form = of.0; count = of.1; enabled = enabled_of of.0 of.1 }
 
   -- the rows of all forms
-  abbrev pub ready_rows : List ReadyRow
+  abbrev pub ready_rows : List Row
   ready_rows = map ready_row (all_forms (count_of c))
 
-  -- the row asked again after a step that leads here, if this can have changed it
-  abbrev pub refreshed : Step → ReadyRow → ReadyRow
-  refreshed s row = if may_change s row.form then ready_row (row.form, row.count) else row
+  -- the row, asked again whether its step with this number is enabled
+  abbrev pub asked : ℕ → Row → Row
+  asked j row = record {
+    form = row.form;
+    count = row.count;
+    enabled = with_answer row.enabled j (is_enabled setting c (step_of row.form j));
+  }
+
+  -- the row, asked again of what can have changed
+  abbrev pub changed : Change → Row → Row
+  changed change.Nothing row = row
+  changed (change.One j) row = if nat_lt j row.count then asked j row else row
+  changed change.All row = ready_row (row.form, row.count)
+
+  -- the row after a step that leads here
+  abbrev pub refreshed : Step → Row → Row
+  refreshed s row = changed (change_of s row.form) row

@@ -3,10 +3,10 @@ use Rattle.std.specs.Prelude.{◌≡◌, ℕ, ◌+◌, ◌≤◌, max, Bool, tru
 use Rattle.std.specs.Prelude.{Option, Some, None, if◌then◌else◌}
 use Rattle.async_shape.specs.Setting.{Setting}
 use Rattle.async_shape.specs.Config.{Config}
-use Rattle.async_shape.specs.Bounded.{is_request}
+use Rattle.ordered_links.specs.Packets.{is_request, is_ack, is_nack, is_reply}
 use Rattle.async_shape.specs.Run.{after_step}
 use Rattle.async_shape.specs.declared.step.Step.{Step}
-use Rattle.drive_report.specs.Drive.{Driven, tells_event, puts_a, is_ack, is_nack, is_reply}
+use Rattle.drive_report.specs.Drive.{Driven, tells_event, puts_a}
 use Rattle.drive_report.specs.Drive.{crosses_at, longest_up, longest_down}
 use Rattle.drive_report.specs.declared.counted.PacketCounts.{PacketCounts}
 use Rattle.drive_report.specs.declared.summary.Summary.{Summary}

@@ -1,6 +1,6 @@
 //! A run that a number chooses, and what is counted over it.
 
-ghost use Rattle.std.specs.Prelude.{◌≡◌, ◌≤◌, true, IfOk, OnOk};
+ghost use Rattle.std.specs.Prelude.{◌≡◌, ◌≤◌, true, IfOk};
 ghost use Rattle.controller_table.specs.Sound.{protocol_of};
 ghost use Rattle.async_shape.specs.Config.{start};
 ghost use Rattle.async_shape.specs.Run.{config_at_end};
@@ -24,58 +24,49 @@ use std::alloc::Global;
 
 // Makes one turn by this number: takes and counts the step that it chooses among those that are
 // enabled, and answers whether there was one.
-fn turn(
-    machine: &mut Machine<CountedLinks>,
-    all: &mut [Row],
-    x: u64,
-    so_far: &mut Summary,
-) -> Result<bool, NoMemory>
+fn turn(machine: &mut Machine<CountedLinks>, all: &mut [Row], x: u64, so_far: &mut Summary) -> bool
     requires rows { all.old ≡ ready_rows (setting machine.old) (counted_config machine.old) }
     requires packets { machine.old.links.counts ≡ turns.packets_counted so_far.old }
     requires few { turns.IsAtMost 100000 so_far.old }
-    ensures turn { IfOk result (λ moved. turns.IsTurn (setting machine.old)
+    ensures turn { turns.IsTurn (setting machine.old)
         (drive.step_chosen x (ready_list (setting machine.old) (counted_config machine.old)))
-        moved (counted_config machine.old) so_far.old (counted_config machine.new) so_far.new) }
-    ensures kept { OnOk result ((machine.new.table ≡ machine.old.table)
-        × (machine.new.slots ≡ machine.old.slots)) }
-    ensures packets { OnOk result (machine.new.links.counts
-        ≡ turns.packets_counted so_far.new) }
-    ensures rows { OnOk result (all.new
-        ≡ ready_rows (setting machine.new) (counted_config machine.new)) }
+        result (counted_config machine.old) so_far.old (counted_config machine.new) so_far.new }
+    ensures kept { (machine.new.table ≡ machine.old.table)
+        × (machine.new.slots ≡ machine.old.slots) }
+    ensures packets { machine.new.links.counts ≡ turns.packets_counted so_far.new }
+    ensures rows { all.new ≡ ready_rows (setting machine.new) (counted_config machine.new) }
 {
+    machine.shaped();
     let Some(step) = chosen(machine, x, all) else {
-        return Ok(false);
+        return false;
     };
     *so_far = take(machine, step, *so_far);
-    refresh(machine, step, all)?;
-    Ok(true)
+    refresh(machine, step, all);
+    true
 }
 
 // Makes up to so many turns, and answers what is counted over them.
-fn turns(
-    machine: &mut Machine<CountedLinks>,
-    all: &mut [Row],
-    count: u32,
-    seed: u64,
-) -> Result<Summary, NoMemory>
+fn turns(machine: &mut Machine<CountedLinks>, all: &mut [Row], count: u32, seed: u64) -> Summary
     requires rows { all.old ≡ ready_rows (setting machine.old) (counted_config machine.old) }
     requires packets { machine.old.links.counts
         ≡ turns.packets_counted turns.nothing_counted }
     requires few { count ≤ 100000 }
-    ensures { IfOk result (λ s. s ≡ turns.counted_to_end (setting machine.old)
+    ensures { result ≡ turns.counted_to_end (setting machine.old)
         turns.nothing_counted (counted_config machine.old)
-        (drive.drive_from (setting machine.old) count (counted_config machine.old) seed)) }
+        (drive.drive_from (setting machine.old) count (counted_config machine.old) seed) }
 {
-    let mut so_far = Summary::nothing();
+    let mut summary = Summary::nothing();
     let mut x = seed;
     for done in 0..count {
         x = number_after(x);
-        if !turn(machine, all, x, &mut so_far)? {
-            so_far.stopped = true;
-            return Ok(so_far);
+        if !turn(machine, all, x, &mut summary) {
+            return Summary {
+                stopped: true,
+                ..summary
+            };
         }
     }
-    Ok(so_far)
+    summary
 }
 
 /// The summary of a run of up to `count` turns from the start, over n remotes and k slots. In each
@@ -105,6 +96,5 @@ pub fn drive(
     let links = CountedLinks::new(alloc, n)?;
     let mut machine = Machine::new(alloc, table, links, k)?;
     let mut all = rows::ready_rows(alloc, &machine)?;
-    let summary = turns(&mut machine, all.as_mut_slice(), count, seed)?;
-    Ok(summary)
+    Ok(turns(&mut machine, all.as_mut_slice(), count, seed))
 }

@@ -1,171 +1,179 @@
-//! The enabled steps, kept from turn to turn in a row for each form. After a step those rows alone
-//! are asked again that it can have changed.
+//! The enabled steps, kept from turn to turn in a row for each form. After a step the rows are asked
+//! again of those steps alone that it can have enabled or disabled.
 
-ghost use Rattle.std.specs.Prelude.{◌≡◌, ◌++◌, [], ◌∷◌, length, map, slice_get, IfOk, OnOk};
+ghost use Rattle.std.specs.Prelude.{◌≡◌, ◌<◌, ◌≤◌, ◌++◌, [], ◌∷◌, length, map, slice_get, IfOk, OnOk};
 ghost use Rattle.std.specs.List.{range_with_len};
+ghost use Rattle.async_shape.specs.Config.{count_of};
 ghost use Rattle.async_machine.specs.Standing.{setting, config};
 ghost use Rattle.drive_report.specs.Drive.{step_chosen};
 ghost use Rattle.drive_report.specs.Forms.{form_of};
 ghost use Rattle.drive_report.specs.Ready.{ready_list};
 ghost use Rattle.drive_report.specs.Rows as rows;
 
+use crate::changes::{Change, change_of};
 use crate::forms::{Form, Pair};
-use crate::ready_list::{MOST_GUARDS, push_form};
+use crate::ready_list::MOST_GUARDS;
 use crate::silent::is_silent;
 use async_machine::{Machine, Step};
 use ordered_links::Links;
+use proto_model::has_number;
 use rv_base::NoMemory;
 use std::alloc::Global;
-use std::marker::Model;
-
-// ---- what a step can change
-
-impl Form {
-    // A step at the home can change which steps of this form are enabled.
-    fn home_changes(self) -> bool
-        ensures { result ≡ rows.home_changes self }
-    {
-        match self {
-            Form::HomeTau
-            | Form::HomeTake
-            | Form::HomeSend(_)
-            | Form::HomeDrop
-            | Form::Up
-            | Form::Down => true,
-            Form::RemoteTau(_) | Form::RemoteSend | Form::RemoteAnswer | Form::RemoteReply => false,
-        }
-    }
-
-    // A step at remote j can.
-    fn remote_changes(self, j: u32) -> bool
-        ensures { result ≡ rows.remote_changes j self }
-    {
-        match self {
-            Form::HomeTau | Form::HomeTake | Form::HomeSend(_) | Form::HomeDrop => false,
-            Form::RemoteTau(i) => i == j,
-            Form::RemoteSend | Form::RemoteAnswer | Form::RemoteReply | Form::Up | Form::Down =>
-                true,
-        }
-    }
-}
-
-// The step can change which steps of this form are enabled.
-fn may_change(step: Step, form: Form) -> bool
-    ensures { result ≡ rows.may_change step form }
-{
-    match step {
-        Step::HomeTau(_)
-        | Step::HomeTake(_)
-        | Step::HomeSend(_, _)
-        | Step::HomeDrop(_)
-        | Step::Up(_) => form.home_changes(),
-        Step::RemoteTau(j, _)
-        | Step::RemoteSend(j)
-        | Step::RemoteAnswer(j)
-        | Step::RemoteReply(j)
-        | Step::Down(j) => form.remote_changes(j),
-    }
-}
 
 // ---- a row
 
-/// A form, the number of its steps, and those of them that are enabled.
-#[derive(Drop)]
+/// A form, the number of its steps, and the set of the numbers of those that are enabled.
+#[derive(Clone, Copy)]
 pub(crate) struct Row {
     form: Form,
-    count: u32,
-    steps: Vec<Step>,
+    count: u8,
+    enabled: u64,
 }
 
-impl Model for Row {
-    ghost use Rattle.drive_report.specs.Rows.{ReadyRow};
+// The set of the numbers below the count whose steps of this form are enabled.
+fn enabled_of<L: Links>(machine: &Machine<L>, form: Form, count: u8) -> u64
+    requires { count ≤ 64 }
+    ensures { result
+        ≡ rows.enabled_of (setting machine.now) (config L.lists machine.now) form count }
+{
+    if is_silent(machine, form) {
+        return 0;
+    }
+    let mut set = 0;
+    for number in 0..count {
+        if machine.is_enabled(form.step(u32::from(number))) {
+            set += 1 << number;
+        }
+    }
+    set
+}
 
-    ghost Value = { ReadyRow };
-
-    ghost view = { λ row. record {
-      form = row.form;
-      count = row.count;
-      steps = row.steps.items;
-    } };
+// The set, with the number where it is to have it, and else without it.
+fn with_answer(set: u64, number: u8, answer: bool) -> u64
+    requires { number < 64 }
+    ensures { result ≡ rows.with_answer set number answer }
+{
+    if answer {
+        set | 1 << number
+    } else if has_number(set, number) {
+        set - (1 << number)
+    } else {
+        set
+    }
 }
 
 impl Row {
-    // How many of them are enabled.
-    fn len(&self) -> usize
-        ensures { result ≡ length self.now.steps }
+    // The row of this form, as the machine stands.
+    fn ready<L: Links>(machine: &Machine<L>, form: Form, count: u8) -> Row
+        requires { count ≤ 64 }
+        ensures { result
+            ≡ rows.ready_row (setting machine.now) (config L.lists machine.now) (form, count) }
     {
-        self.steps.len()
+        Row {
+            form,
+            count,
+            enabled: enabled_of(machine, form, count),
+        }
+    }
+
+    // How many of its steps are enabled.
+    fn len(self) -> usize
+        requires { rows.IsSmall self }
+        ensures value { result ≡ length (rows.steps_of self) }
+        ensures few { result ≤ 64 }
+    {
+        self.enabled.count_ones() as usize
     }
 
     // The enabled step at this place.
-    fn step_at(&self, place: usize) -> Option<Step>
-        ensures { result ≡ slice_get self.now.steps place }
+    fn step_at(self, place: usize) -> Option<Step>
+        ensures { result ≡ slice_get (rows.steps_of self) place }
     {
-        self.steps.as_slice().get(place).copied()
+        let mut left = place;
+        for number in 0..self.count {
+            if has_number(self.enabled, number) {
+                if left == 0 {
+                    return Some(self.form.step(u32::from(number)));
+                }
+                left -= 1;
+            }
+        }
+        None
     }
 
-    // Asks which steps are enabled as the machine stands.
-    fn fill<L: Links>(&mut self, machine: &Machine<L>) -> Result<(), NoMemory>
-        ensures { OnOk result (self.new
-            ≡ rows.ready_row (setting machine.now) (config L.lists machine.now)
-            (self.old.form, self.old.count)) }
+    // The row, asked again whether its step with this number is enabled.
+    fn asked<L: Links>(self, machine: &Machine<L>, number: u8) -> Row
+        requires { number < 64 }
+        ensures { result
+            ≡ rows.asked (setting machine.now) (config L.lists machine.now) number self }
     {
-        self.steps.clear();
-        if is_silent(machine, self.form) {
-            return Ok(());
+        let answer = machine.is_enabled(self.form.step(u32::from(number)));
+        Row {
+            form: self.form,
+            count: self.count,
+            enabled: with_answer(self.enabled, number, answer),
         }
-        push_form(machine, self.form, self.count, &mut self.steps)?;
-        Ok(())
     }
 
-    // Asks again, if the step that was taken can have changed something.
-    fn refresh<L: Links>(&mut self, machine: &Machine<L>, step: Step) -> Result<(), NoMemory>
-        ensures { OnOk result (self.new
-            ≡ rows.refreshed (setting machine.now) (config L.lists machine.now) step self.old) }
+    // The row after the step that was taken: asked again of what this can have changed.
+    fn refreshed<L: Links>(self, machine: &Machine<L>, step: Step) -> Row
+        requires { self.count ≤ 64 }
+        ensures { result
+            ≡ rows.refreshed (setting machine.now) (config L.lists machine.now) step self }
     {
-        if may_change(step, self.form) {
-            self.fill(machine)?;
+        match change_of(step, self.form) {
+            Change::Nothing => self,
+            Change::One(number) => {
+                if number < u32::from(self.count) {
+                    self.asked(machine, number as u8)
+                } else {
+                    self
+                }
+            }
+            Change::All => Row::ready(machine, self.form, self.count),
         }
-        Ok(())
     }
 }
 
 // ---- all rows
 
+// How many remotes there are.
+fn remotes_of<L: Links>(machine: &Machine<L>) -> u8
+    ensures value { result ≡ count_of (config L.lists machine.now) }
+    ensures few { result ≤ 64 }
+{
+    machine.shaped();
+    machine.n()
+}
+
 fn push_row<L: Links>(
-    alloc: Global,
     machine: &Machine<L>,
     form: Form,
-    count: u32,
+    count: u8,
     all: &mut Vec<Row>,
 ) -> Result<(), NoMemory>
+    requires { count ≤ 64 }
     ensures { OnOk result (all.new.items ≡ all.old.items
         ++ rows.ready_row (setting machine.now) (config L.lists machine.now) (form, count) ∷ []) }
 {
-    let mut row = Row {
-        form,
-        count,
-        steps: Vec::with_capacity(alloc, count as usize)?,
-    };
-    row.fill(machine)?;
-    all.push(row)?;
+    all.push(Row::ready(machine, form, count))?;
     Ok(())
 }
 
 fn push_rows<L: Links>(
-    alloc: Global,
     machine: &Machine<L>,
     pair: Pair,
-    firsts: u32,
-    count: u32,
+    firsts: u8,
+    count: u8,
     all: &mut Vec<Row>,
 ) -> Result<(), NoMemory>
+    requires { count ≤ 64 }
     ensures { OnOk result (all.new.items ≡ all.old.items
         ++ map (rows.ready_row (setting machine.now) (config L.lists machine.now))
         (map (λ first. (form_of pair first, count)) (range_with_len 0 firsts))) }
 {
     for first in 0..firsts {
-        push_row(alloc, machine, pair.form(first), count, all)?;
+        push_row(machine, pair.form(u32::from(first)), count, all)?;
     }
     Ok(())
 }
@@ -178,35 +186,31 @@ pub(crate) fn ready_rows<L: Links>(
     ensures { IfOk result (λ all. all.items
         ≡ rows.ready_rows (setting machine.now) (config L.lists machine.now)) }
 {
-    let n = u32::from(machine.n());
+    let n = remotes_of(machine);
+    let guards = MOST_GUARDS as u8;
     let mut all = Vec::new(alloc);
-    push_row(alloc, machine, Form::HomeTau, MOST_GUARDS, &mut all)?;
-    push_row(alloc, machine, Form::HomeTake, n, &mut all)?;
-    push_rows(alloc, machine, Pair::HomeSend, MOST_GUARDS, n, &mut all)?;
-    push_row(alloc, machine, Form::HomeDrop, n, &mut all)?;
-    push_rows(alloc, machine, Pair::RemoteTau, n, MOST_GUARDS, &mut all)?;
-    push_row(alloc, machine, Form::RemoteSend, n, &mut all)?;
-    push_row(alloc, machine, Form::RemoteAnswer, n, &mut all)?;
-    push_row(alloc, machine, Form::RemoteReply, n, &mut all)?;
-    push_row(alloc, machine, Form::Up, n, &mut all)?;
-    push_row(alloc, machine, Form::Down, n, &mut all)?;
+    push_row(machine, Form::HomeTau, guards, &mut all)?;
+    push_row(machine, Form::HomeTake, n, &mut all)?;
+    push_rows(machine, Pair::HomeSend, guards, n, &mut all)?;
+    push_row(machine, Form::HomeDrop, n, &mut all)?;
+    push_rows(machine, Pair::RemoteTau, n, guards, &mut all)?;
+    push_row(machine, Form::RemoteSend, n, &mut all)?;
+    push_row(machine, Form::RemoteAnswer, n, &mut all)?;
+    push_row(machine, Form::RemoteReply, n, &mut all)?;
+    push_row(machine, Form::Up, n, &mut all)?;
+    push_row(machine, Form::Down, n, &mut all)?;
     Ok(all)
 }
 
-/// Asks the rows again that the step, which was taken, can have changed. After `NoMemory` they may
-/// be any rows.
-pub(crate) fn refresh<L: Links>(
-    machine: &Machine<L>,
-    step: Step,
-    all: &mut [Row],
-) -> Result<(), NoMemory>
-    ensures { OnOk result (all.new
-        ≡ map (rows.refreshed (setting machine.now) (config L.lists machine.now) step) all.old) }
+/// Asks again of the rows what the step, which was taken, can have changed.
+pub(crate) fn refresh<L: Links>(machine: &Machine<L>, step: Step, all: &mut [Row])
+    requires { rows.AreFew all.old }
+    ensures { all.new
+        ≡ map (rows.refreshed (setting machine.now) (config L.lists machine.now) step) all.old }
 {
     for row in all.iter_mut() {
-        row.refresh(machine, step)?;
+        *row = row.refreshed(machine, step);
     }
-    Ok(())
 }
 
 // How many steps the rows hold.
@@ -223,6 +227,7 @@ fn total(all: &[Row]) -> usize
 
 // The step at this place of all that the rows hold.
 fn step_at(all: &[Row], place: usize) -> Option<Step>
+    requires { rows.AreFew all.now }
     ensures { result ≡ slice_get (rows.steps_in all.now) place }
 {
     let mut left = place;

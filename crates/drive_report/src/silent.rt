@@ -1,7 +1,7 @@
 //! Forms of which no step is enabled, found without asking each step: those at a home that waits,
 //! sends by a guard that is no output, and local steps of a remote that isn't idle.
 
-ghost use Rattle.std.specs.Prelude.{◌≡◌, [], ℕ, true, false};
+ghost use Rattle.std.specs.Prelude.{◌≡◌, ℕ, true, false};
 ghost use Rattle.controller_table.specs.Sound.{protocol_of};
 ghost use Rattle.async_shape.specs.Next.{is_enabled};
 ghost use Rattle.async_shape.specs.declared.step.Step.TheVariants as step;
@@ -13,7 +13,7 @@ use crate::forms::Form;
 use async_machine::{HomePlace, Machine};
 use controller_table::Place;
 use ordered_links::Links;
-use proto_model::{Body, RuleKind};
+use proto_model::{Body, guard_at, is_output};
 
 // The steps of this form take place at the home, and take no packet.
 fn is_at_home(form: Form) -> bool
@@ -29,13 +29,10 @@ fn is_at_home(form: Form) -> bool
 fn is_output_at(body: &Body, state: u8, g: u32) -> bool
     ensures { result ≡ rows.is_output_at body.now state g }
 {
-    let Some(info) = body.states.as_slice().get(state as usize) else {
-        return false;
-    };
-    let Some(rule) = info.rules.as_slice().get(g as usize) else {
-        return false;
-    };
-    matches!(rule.kind, RuleKind::Output(_, _, _))
+    match guard_at(body, state, g as usize) {
+        Some(rule) => is_output(rule),
+        None => false,
+    }
 }
 
 // Guard g of the home's state is an output.
@@ -85,8 +82,8 @@ fn is_busy<L: Links>(machine: &Machine<L>, j: u32) -> bool
     }
 }
 
-// The answer is true only where no step of this form is enabled.
-fn has_none<L: Links>(machine: &Machine<L>, form: Form) -> bool
+/// Whether it is seen at once that no step of this form is enabled.
+pub(crate) fn is_silent<L: Links>(machine: &Machine<L>, form: Form) -> bool
     ensures { result ≡ true → (b : ℕ)
         → is_enabled (setting machine.now) (config L.lists machine.now) (step_of form b)
         ≡ false }
@@ -103,12 +100,4 @@ fn has_none<L: Links>(machine: &Machine<L>, form: Form) -> bool
         | Form::Up
         | Form::Down => waits(machine, form),
     }
-}
-
-/// Whether it is seen at once that no step of this form is enabled.
-pub(crate) fn is_silent<L: Links>(machine: &Machine<L>, form: Form) -> bool
-    ensures { result ≡ true → (count : ℕ)
-        → rows.enabled_of (setting machine.now) (config L.lists machine.now) form count ≡ [] }
-{
-    has_none(machine, form)
 }

@@ -21,10 +21,11 @@ returns-clause-summary c =
     let count = lists ∙ length-replicate c.args.n no_packets in
     let at : counted_config machine ≡ start of.protocol c.args.n =
     c.in_ok-machine.ensures.start ∙ ap (start of.protocol) count in
-    c.in_ok-summary.ensures
+    c.turns.ensures
     ∙ ap₂
     (λ (setting : Setting) (first : Config).
-    counted_to_end setting nothing_counted first (drive_from setting c.args.count first c.args.seed))
+    counted_to_end setting nothing_counted first
+    (drive_from setting c.args.count first c.args.seed))
     same at
     ∙ counted-is of c.args.n c.args.count c.args.seed
 

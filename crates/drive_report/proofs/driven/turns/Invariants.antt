@@ -16,9 +16,9 @@ invariant-loop-done l =
       table : l.machine.table ≡ l.fn.machine.table;
       slots : l.machine.slots ≡ l.fn.machine.slots;
       rows : l.all ≡ ready_rows (setting l.machine) now;
-      packets : l.machine.links.counts ≡ packets_counted l.so_far;
-      few : IsAtMost l.done l.so_far;
-      going : l.so_far.stopped ≡ false;
-      whole : counted_to_end of l.so_far now (drive_from of (l.count - l.done) now l.x)
+      packets : l.machine.links.counts ≡ packets_counted l.summary;
+      few : IsAtMost l.done l.summary;
+      going : l.summary.stopped ≡ false;
+      whole : counted_to_end of l.summary now (drive_from of (l.count - l.done) now l.x)
           ≡ counted_to_end of nothing_counted first (drive_from of l.count first l.seed);
     }

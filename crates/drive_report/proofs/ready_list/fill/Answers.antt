@@ -2,7 +2,8 @@
 use Rattle.std.proofs.Common.{ℕ, filter, ap, ◌∙◌}
 use Rattle.async_shape.specs.Next.{is_enabled}
 use Rattle.async_machine.specs.Standing.{setting, config}
-use Rattle.drive_report.specs.Ready.{most_guards, all_steps}
+use Rattle.proto_model.specs.Proper.{most_guards}
+use Rattle.drive_report.specs.Ready.{all_steps}
 use Rattle.drive_report.proofs.ReadyList.{kinds-pushed, all_steps-kinds}
 use Rattle.drive_report.proofs.ready_list.fill.Goals as goal
 

@@ -15,4 +15,5 @@ loop-first-preserved g c =
     pair-row_pushed give (λ (one : ℕ). (form_of c.args.pair one, c.args.count)) c.loop-first.first
     c.args.all.now.items rows c.push_row.new.all.items c.loop-first.invariant
     (c.in_ok-push_row.ensures
-    ∙ ap (λ (f : Form). rows ++ give (f, c.args.count) ∷ []) c.form.ensures)
+    ∙ ap (λ (f : Form). rows ++ give (f, c.args.count) ∷ [])
+    (c.form.ensures ∙ ap (form_of c.args.pair) c.from.ensures))

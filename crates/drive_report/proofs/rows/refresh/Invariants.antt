@@ -1,4 +1,4 @@
--- So far the first rows are refreshed, and the others are as they were.
+-- So far the first rows were asked again, and the others are as they were.
 use Rattle.std.proofs.Common.{◌≡◌, ◌++◌, map, take, drop}
 use Rattle.async_machine.specs.Standing.{setting, config}
 use Rattle.drive_report.specs.Rows.{refreshed}
