@@ -1,0 +1,5 @@
+pub mod TakenRuns
+pub mod WiresAfter
+pub mod MovesTold
+pub mod Frames
+pub mod LinkedWires

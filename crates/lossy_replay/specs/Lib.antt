@@ -1,0 +1,5 @@
+pub mod LossyLines
+pub mod LossyTrace
+pub mod Linked
+pub mod Standing
+pub mod StepsTaken
