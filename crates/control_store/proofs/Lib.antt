@@ -1,0 +1,14 @@
+pub mod Undone
+pub mod Parts
+pub mod Ranges
+pub mod FewRows
+pub mod WordsMade
+pub mod WordsRead
+pub mod WordsWritten
+pub mod SameRow
+pub mod HeadOnce
+pub mod HeadRead
+pub mod FirstWrong
+pub mod ComparedOnce
+pub mod WholeImage
+pub mod BothRows

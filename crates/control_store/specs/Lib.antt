@@ -1,0 +1,4 @@
+pub mod RowWord
+pub mod Image
+pub mod Head
+pub mod Compared
