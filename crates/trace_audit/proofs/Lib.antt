@@ -1,0 +1,11 @@
+pub mod ClosedAndOpen
+pub mod AuditedSoFar
+pub mod Heard
+pub mod Counts
+pub mod AuditEnds
+pub mod StepLines
+pub mod ShownTexts
+pub mod AcceptedRun
+pub mod Expected
+pub mod LeadingWords
+pub mod HeardEvents

@@ -1,0 +1,5 @@
+pub mod Auditing
+pub mod AuditedTrace
+pub mod Audits
+pub mod PrintedRun
+pub mod Turns

@@ -1,0 +1,15 @@
+pub mod Fits
+pub mod ValuesFit
+pub mod StateLinesFit
+pub mod Goes
+pub mod PlainWords
+pub mod StepLine
+pub mod TracePasses
+pub mod HeardEvents
+pub mod ToldFits
+pub mod BlocksGo
+pub mod EndingGoes
+pub mod BlocksPlayed
+pub mod ClaimRefused
+pub mod Plain
+pub mod SayablePlain
