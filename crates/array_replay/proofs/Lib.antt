@@ -1,0 +1,4 @@
+pub mod ArrayWords
+pub mod MeantLines
+pub mod ToldInLine
+pub mod LinesOfRuns

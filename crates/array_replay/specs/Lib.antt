@@ -1,0 +1,4 @@
+pub mod ArrayLines
+pub mod ArrayTrace
+pub mod ArrayRuns
+pub mod Standing

@@ -1,0 +1,156 @@
+//! A line of a schedule of steps of several cache lines.
+
+ghost use Rattle.std.specs.Prelude.{◌≡◌, ◌∷◌};
+ghost use Rattle.rv_base.specs.Words.{words};
+ghost use Rattle.run_replay.specs.StepLines.{step_of};
+ghost use Rattle.array_replay.specs.ArrayLines as lines;
+ghost use Rattle.array_replay.specs.ArrayLines.{Says, array_line};
+
+use async_machine::Step;
+use line_array::LineStep;
+use run_replay::read_line;
+use rv_base::next_word;
+use schedule_replay::{Meaning, schedule_number};
+
+// The step of this cache line, unless a packet arrives in it.
+fn own_step(line: u32, step: Step) -> Option<LineStep>
+    ensures { result ≡ lines.own_step line step }
+{
+    match step {
+        Step::Up(_) | Step::Down(_) => None,
+        Step::HomeTau(_)
+        | Step::HomeTake(_)
+        | Step::HomeSend(_, _)
+        | Step::HomeDrop(_)
+        | Step::RemoteTau(_, _)
+        | Step::RemoteSend(_)
+        | Step::RemoteAnswer(_)
+        | Step::RemoteReply(_) => Some(LineStep::At(line, step)),
+    }
+}
+
+// The delivery over a shared link that has the words of this step, if a packet arrives in it.
+fn delivery(step: Step) -> Option<LineStep>
+    ensures { result ≡ lines.delivery step }
+{
+    match step {
+        Step::Up(remote) => Some(LineStep::Up(remote)),
+        Step::Down(remote) => Some(LineStep::Down(remote)),
+        Step::HomeTau(_)
+        | Step::HomeTake(_)
+        | Step::HomeSend(_, _)
+        | Step::HomeDrop(_)
+        | Step::RemoteTau(_, _)
+        | Step::RemoteSend(_)
+        | Step::RemoteAnswer(_)
+        | Step::RemoteReply(_) => None,
+    }
+}
+
+// The step that the words of a line say for one pair of controllers, if they say one.
+fn step_said(line: &[u8]) -> Option<Step>
+    ensures { result ≡ step_of (words line.now) }
+{
+    match read_line(line) {
+        Meaning::Says(step) => Some(step),
+        Meaning::Blank | Meaning::Bad => None,
+    }
+}
+
+// The step of the words behind `at`, which are those of this rest of a line.
+fn step_at(rest: &[u8]) -> Option<LineStep>
+    ensures { result ≡ lines.step_at (words rest.now) }
+{
+    let (number, rest) = next_word(rest)?;
+    own_step(schedule_number(number)?, step_said(rest)?)
+}
+
+// The step that the line says, whose words are this one and those of the rest.
+fn array_step(line: &[u8], first: &[u8], rest: &[u8]) -> Option<LineStep>
+    requires { words line.now ≡ first.now ∷ words rest.now }
+    ensures { result ≡ lines.array_step (first.now ∷ words rest.now) }
+{
+    if first == b"at".as_slice() {
+        return step_at(rest);
+    }
+    delivery(step_said(line)?)
+}
+
+// What the line says, whose words are this one and those of the rest.
+fn line_of_words(line: &[u8], first: &[u8], rest: &[u8]) -> Meaning<LineStep>
+    requires { words line.now ≡ first.now ∷ words rest.now }
+    ensures says { Says (first.now ∷ words rest.now) result }
+    ensures value { result ≡ lines.line_of_words (first.now ∷ words rest.now) }
+{
+    match array_step(line, first, rest) {
+        Some(step) => Meaning::Says(step),
+        None => Meaning::Bad,
+    }
+}
+
+/// Reads a line of a schedule of steps of several cache lines, without its LF and whatever its
+/// length: of what stands before the first `//`, cut into words, `at A` and the words of a step
+/// that is no delivery, or `up J` or `down J`, where `A` is the number of a cache line and `J` that
+/// of a remote, from 0 to 99,999 without leading zeros. A line without words is blank, and one of
+/// other words malformed. Takes no memory.
+pub fn read_array_line(line: &[u8]) -> Meaning<LineStep>
+    ensures says { Says (words line.now) result }
+    ensures value { result ≡ array_line line.now }
+{
+    let Some((first, rest)) = next_word(line) else {
+        return Meaning::Blank;
+    };
+    line_of_words(line, first, rest)
+}
+
+#[cfg(test)]
+mod tests {
+    use super::*;
+    use std::test::Fail;
+
+    #[test]
+    fn each_form_is_read_and_no_other(rt: HostRuntime) -> Result<(), Fail> {
+        let send = Step::RemoteSend(2);
+        let cases: [(&[u8], Meaning<LineStep>); 20] = [
+            (
+                b"at 0 home tau 15",
+                Meaning::Says(LineStep::At(0, Step::HomeTau(15))),
+            ),
+            (
+                b"\tat 15  remote 2\tsend\r",
+                Meaning::Says(LineStep::At(15, send)),
+            ),
+            (
+                b"at 99999 remote 2 send//",
+                Meaning::Says(LineStep::At(99_999, send)),
+            ),
+            (
+                b"at 1 home send 1 2",
+                Meaning::Says(LineStep::At(1, Step::HomeSend(1, 2))),
+            ),
+            (
+                b"at 1 remote 0 tau 3",
+                Meaning::Says(LineStep::At(1, Step::RemoteTau(0, 3))),
+            ),
+            (b"up 0 // down 0", Meaning::Says(LineStep::Up(0))),
+            (b"down 63", Meaning::Says(LineStep::Down(63))),
+            (b"", Meaning::Blank),
+            (b" \t\r// up 0", Meaning::Blank),
+            (b"at", Meaning::Bad),
+            (b"at 0", Meaning::Bad),
+            (b"at 0 up 0", Meaning::Bad),
+            (b"at 0 down 0", Meaning::Bad),
+            (b"at 0 at 0 remote 2 send", Meaning::Bad),
+            (b"at 00 remote 2 send", Meaning::Bad),
+            (b"at 100000 remote 2 send", Meaning::Bad),
+            (b"at 0 remote 2 send 1", Meaning::Bad),
+            (b"remote 2 send", Meaning::Bad),
+            (b"home take 0", Meaning::Bad),
+            (b"up 0 1", Meaning::Bad),
+        ];
+        for (line, says) in cases {
+            assert_eq!(rt; read_array_line(line), says);
+        }
+        Ok(())
+    }
+}

@@ -1,0 +1,12 @@
+pub mod PutLink
+pub mod OnLinks
+pub mod CarriedOf
+pub mod StepsCarry
+pub mod Sharing
+pub mod InOrder
+pub mod RunsAlone
+pub mod InStepOf
+pub mod RingsChanged
+pub mod NotedStep
+pub mod ArraySteps
+pub mod ArrayStart

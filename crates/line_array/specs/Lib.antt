@@ -1,0 +1,9 @@
+pub mod SharedLists
+pub mod NumberRings
+pub mod ArrayConfig
+pub mod ArrayNext
+pub mod Carried
+pub mod InStep
+pub mod Noted
+pub mod Standing
+pub mod WorkedLines
