@@ -97,6 +97,24 @@ pub fn closes<'a>(words: &'a [&'a str], file: &'a [&'a [u8]], back: &'a [u8]) ->
     }
 }
 
+/// A run over a file and a schedule of these pieces, which must end with this status and text.
+pub fn over_schedule<'a>(
+    words: &'a [&'a str],
+    file: &'a [&'a [u8]],
+    schedule: &'a [&'a [u8]],
+    status: Status,
+    text: &'a [u8],
+) -> Case<'a> {
+    Case {
+        words,
+        file,
+        schedule,
+        reads: Reads::FileAndSchedule,
+        status,
+        text: Text::Whole(text),
+    }
+}
+
 /// Why a run isn't as it must be.
 #[derive(Clone, Copy, Debug)]
 pub enum Wrong {

@@ -1,8 +1,8 @@
 //! Runs that must end as their cases say.
 
 use crate::ended::{End, Ended};
-use crate::runs::{Failing, FailingRun, SteadyRun};
-use crate::{Case, Reads, Wrong, over_file};
+use crate::runs::{Failing, FailingRun, SteadyRun, joined};
+use crate::{Case, Reads, Wrong, over_file, over_schedule};
 use rv_base::NoMemory;
 use rvc_top::Status;
 use std::alloc::Global;
@@ -58,6 +58,22 @@ pub fn each_file_ends(
         file_ends(alloc, words, file, status, text)?;
     }
     Ok(())
+}
+
+/// That a run with these words over a file and a schedule of these pieces ends with this status and
+/// with the text of these pieces.
+pub fn schedule_ends(
+    alloc: Global,
+    words: &[&str],
+    file: &[&[u8]],
+    schedule: &[&[u8]],
+    status: Status,
+    text: &[&[u8]],
+) -> Result<(), Wrong> {
+    match joined(alloc, text) {
+        Ok(text) => ends(alloc, &over_schedule(words, file, schedule, status, &text)),
+        Err(_) => Err(Wrong::NoMemory),
+    }
 }
 
 /// How many bytes of the schedule the case's run leaves, as far as 200 reads tell, where each call

@@ -19,12 +19,12 @@ mod faults;
 mod protocols;
 mod runs;
 
-pub use cases::{Case, Reads, Text, Wrong, begins, closes, over_file, over_nothing};
+pub use cases::{Case, Reads, Text, Wrong, begins, closes, over_file, over_nothing, over_schedule};
 pub use endless::{ends_over_endless_file, ends_over_endless_schedule};
-pub use expected::{each_file_ends, ends, ends_by, left_after};
+pub use expected::{each_file_ends, ends, ends_by, left_after, schedule_ends};
 pub use faults::{each_file_read_fails, each_schedule_read_fails, each_write_fails};
 pub use protocols::{
-    ARITH, HOLD, HOLD_LINE, INVALIDATE, MIGRATORY, MIGRATORY_2, SMALL, STILL, STILL_LINE,
+    ARITH, HOLD, HOLD_LINE, INVALIDATE, MIGRATORY, MIGRATORY_2, SMALL, STILL, STILL_LINE, THREE,
     migratory_body,
 };
 pub use runs::joined;

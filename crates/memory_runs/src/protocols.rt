@@ -46,6 +46,31 @@ remote {
 }
 ";
 
+/// A home and a remote that send to each other.
+pub const THREE: &[u8] = b"\
+protocol three;
+message a down;
+message b up;
+home {
+  var j node = none;
+  start H;
+  state H {
+    to any j ! a goto H;
+    from any j ? b goto H;
+  }
+}
+remote {
+  start P;
+  state P {
+    tau goto Q;
+    from home ? a goto P;
+  }
+  state Q {
+    to home ! b goto P;
+  }
+}
+";
+
 /// A remote that sends `a` again and again to a home that takes nothing.
 pub const SMALL: &[u8] = b"\
 protocol small;

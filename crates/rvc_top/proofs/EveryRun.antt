@@ -10,12 +10,14 @@ use Rattle.rvc_top.specs.Verdict.{EveryVerdictIsOne}
 use Rattle.rvc_top.specs.Runs.{RefusesWords}
 use Rattle.rvc_top.specs.declared.command.Command.{Command}
 use Rattle.rvc_top.specs.declared.command.Command.TheVariants.{Print, Check, Rv, Run, Drive}
+use Rattle.rvc_top.specs.declared.command.Command.TheVariants.{Lossy, Store, Boot, Audit, Lines}
 use Rattle.rvc_top.specs.declared.command.Command.TheVariants.{TableText, TableJson}
 use Rattle.rvc_top.specs.declared.command.Command.TheVariants.{Example as ExampleText}
 use Rattle.rvc_top.specs.declared.example.Example.{Example}
 use Rattle.rvc_top.specs.declared.status.Status.{Status}
 use Rattle.rvc_top.specs.declared.status.Status.TheVariants.{FileRefused}
 use Rattle.rvc_top.proofs.Forms.{spelled_form-is, checked_form-is}
+use Rattle.rvc_top.proofs.StoreForms.{stored_form-is, image_form-is}
 
 -- The file that a command reads is refused with one text or holds one value.
 abbrev pub IsSound : Task → Type 0
@@ -39,6 +41,11 @@ owed (Some Check) = record { sound = checked_form-is; meant = λ e. absurd e }
 owed (Some (Rv n)) = record { sound = checked_form-is; meant = λ e. absurd e }
 owed (Some (Run n k mode)) = record { sound = checked_form-is; meant = λ e. absurd e }
 owed (Some (Drive d)) = record { sound = checked_form-is; meant = λ e. absurd e }
+owed (Some (Lossy n k mode)) = record { sound = checked_form-is; meant = λ e. absurd e }
+owed (Some (Store mode)) = record { sound = stored_form-is; meant = λ e. absurd e }
+owed (Some (Boot n k)) = record { sound = image_form-is; meant = λ e. absurd e }
+owed (Some (Audit n)) = record { sound = checked_form-is; meant = λ e. absurd e }
+owed (Some (Lines n k mode lines)) = record { sound = checked_form-is; meant = λ e. absurd e }
 owed (Some (TableText mode)) = record { sound = checked_form-is; meant = λ e. absurd e }
 owed (Some (TableJson mode)) = record { sound = checked_form-is; meant = λ e. absurd e }
 owed (Some (ExampleText which)) = record { sound = tt; meant = example-meant which }

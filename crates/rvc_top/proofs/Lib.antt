@@ -1,5 +1,6 @@
 pub mod FirstFault
 pub mod Forms
+pub mod StoreForms
 pub mod EveryRun
 pub mod Endings
 pub mod Checked
@@ -11,3 +12,9 @@ pub mod RunRefines
 pub mod Conclusions
 pub mod Replays
 pub mod BrokenStarts
+pub mod KeptText
+pub mod Booting
+pub mod BootsAsRun
+pub mod ConcludedReplays
+pub mod AuditedTraces
+pub mod AuditedRuns

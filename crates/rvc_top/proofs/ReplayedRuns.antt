@@ -1,14 +1,13 @@
 -- A run that replays its schedule is one as its command is described.
-use Rattle.std.proofs.Common.{◌≡◌, ◌+◌, [], sym, ◌∙◌, ap, subst, refl, arith, inl, inr, Ok}
+use Rattle.std.proofs.Common.{◌≡◌, ◌+◌, sym, ap, subst, arith, inl, inr, Ok}
 use Rattle.std.proofs.Common.{IsSome, IfSome}
 use Rattle.std.proofs.lemmas.Option.{IfSome_then}
 use Rattle.proto_model.specs.Tokens.{Text}
 use Rattle.rv_base.specs.Outside.{RisesWhere, MayRise}
 use Rattle.rv_base.specs.Whole.{TakesAtMost}
-use Rattle.schedule_replay.specs.ScheduleLimits.{most_taken}
 use Rattle.schedule_replay.specs.declared.limits.Limits.{Limits}
 use Rattle.rvc_top.specs.Forms.{FileForm, IsForm}
-use Rattle.rvc_top.specs.Commands.{Replay, WritesText, ReplaysSchedule}
+use Rattle.rvc_top.specs.Commands.{Replay, ReplaysSchedule}
 use Rattle.rvc_top.specs.Verdict.{IsSaid, FileVerdict, TaskVerdict}
 use Rattle.rvc_top.specs.Endings.{kind_of, run_read_failed, run_write_failed, run_wants}
 use Rattle.rvc_top.specs.Endings.{Ends, IsOrFails, AnswersOrFails}
@@ -21,11 +20,11 @@ use Rattle.rvc_top.specs.declared.file.FileRead.{FileRead}
 use Rattle.rvc_top.specs.declared.file.FileRead.TheVariants.{Holds, Refused}
 use Rattle.rvc_top.specs.declared.reply.Reply.{Reply}
 use Rattle.rvc_top.specs.declared.status.Status.{Status}
-use Rattle.rvc_top.specs.declared.status.Status.TheVariants.{Done, FileRefused, NoMemory}
-use Rattle.rvc_top.proofs.EveryRun.{task-one, file-says}
+use Rattle.rvc_top.specs.declared.status.Status.TheVariants.{Done, FileRefused}
+use Rattle.rvc_top.proofs.EveryRun.{file-says}
 use Rattle.rvc_top.proofs.Runs.{run-replied}
-use Rattle.rvc_top.proofs.Stays.{replayed-stays, IsStill, still-left, still-count, still-taken}
-use Rattle.rvc_top.proofs.Endings.{partly-nothing, rises-le, rose-where, told, ends-map}
+use Rattle.rvc_top.proofs.Stays.{replayed-stays, IsStill}
+use Rattle.rvc_top.proofs.Endings.{rises-le, rose-where, ends-map}
 
 module _ (Value : Type 0) (form : FileForm Value) (sound : IsForm form) (limits : Limits)
     (replay : Value → Replay)
@@ -142,32 +141,3 @@ module _ (Value : Type 0) (form : FileForm Value) (sound : IsForm form) (limits 
         (subst FileDecides (sym refused) tt) count finishes
         (λ e. absurd (refused-undone reply.status refused e))
         (λ e reads. refused-undone reply.status refused e) taken file_wants writes out_wants
-
--- a replay that there is no memory to begin
-module _ (replay : Replay) (limits : Limits) (schedule out : Seen) (still : IsStill schedule)
-    (still_out : IsStill out) where
-  unbegun-bytes : (s : Text) → IfSome out.old.bytes (λ before. Ends (IsSaid (replay.says s))
-      (replay.Leaves s schedule.new.bytes before out.new.bytes) before out.new.bytes NoMemory)
-  unbegun-bytes s = told out.old.bytes _ (λ before e.
-      partly-nothing (IsSaid (replay.says s)) (task-one (WritesText (replay.says s)) tt [] []) ⊥
-      before out.new.bytes (still-left out still_out ∙ e))
-
-  pub replay-unbegun : IsReplay replay limits schedule out NoMemory
-  replay-unbegun = record {
-    bytes = (
-      λ broken s. unbegun-bytes s,
-      told schedule.old.bytes _ (λ s e. unbegun-bytes s),
-    );
-    exact = (
-      λ broken s. inr (inr (inr refl)),
-      told schedule.old.bytes _ (λ s e. inr (inr (inr refl))),
-    );
-    reaches = tt;
-    schedule_count = still-count schedule still;
-    write_count = still-count out still_out;
-    wants = λ fine. absurd (fine refl);
-    unasked = λ broken. still.same;
-    schedule_end = λ e. absurd (cc);
-    schedule_decided = λ e. absurd (cc);
-    schedule_taken = still-taken schedule still (most_taken limits);
-  }

@@ -72,7 +72,7 @@ pub record IsStill (side : Seen) : Type 0 where
   pub same : side.Same
 
 module _ (side : Seen) (still : IsStill side) where
-  pub still-left : side.new.bytes ≡ side.old.bytes
+  still-left : side.new.bytes ≡ side.old.bytes
   still-left = ap (λ (x : SeenAt). x.bytes) still.at
 
   pub still-count : side.new.faults ≡ side.old.faults

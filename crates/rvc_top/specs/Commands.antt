@@ -1,7 +1,7 @@
 -- What the commands do. Of what a reader must believe this file alone tells one command from
 -- another: a run's verdict, its ending, and what it reads and leaves follow from the description of
 -- its command.
-use Rattle.std.specs.Prelude.{ℕ, ◌≤◌, ◌++◌, map, Option, Some, None, string_bytes}
+use Rattle.std.specs.Prelude.{ℕ, ◌≡◌, ◌≤◌, ◌++◌, map, Option, Some, None, string_bytes}
 use Rattle.proto_model.specs.Tokens.{Text}
 use Rattle.proto_model.specs.LaidOut.{laid_out}
 use Rattle.proto_model.specs.Numbered.{CheckedProtocol}
@@ -16,18 +16,29 @@ use Rattle.schedule_replay.specs.declared.limits.Limits.{Limits}
 use Rattle.schedule_replay.specs.declared.replaying.Replayed.TheVariants as replay
 use Rattle.async_shape.specs.Setting.{Setting}
 use Rattle.run_replay.specs.RunTrace.{run_play, run_start}
+use Rattle.array_replay.specs.ArrayTrace.{array_play, array_begin}
+use Rattle.lossy_replay.specs.LossyTrace.{lossy_play, lossy_start}
+use Rattle.trace_audit.specs.Auditing.{audit_start}
+use Rattle.trace_audit.specs.AuditedTrace.{Outcome, Accepted, RefusedAt, audited, audit_limits}
+use Rattle.trace_audit.specs.AuditedTrace.{stop_of}
+use Rattle.trace_audit.specs.Audits.{BreaksOff}
 use Rattle.drive_report.specs.Drive.{summary}
 use Rattle.drive_report.specs.SummaryText.{summary_text}
 use Rattle.controller_table.specs.Sound.{table_in}
 use Rattle.table_printer.specs.TableText.{table_text}
 use Rattle.table_printer.specs.TableJson.{table_json}
-use Rattle.rvc_top.specs.Texts.{usage_text, ok_text, bad_line_text, too_many_text}
+use Rattle.rvc_top.specs.Texts.{usage_text, ok_text, bad_line_text, too_many_text, audit_ok_text}
+use Rattle.rvc_top.specs.Texts.{bad_trace_text}
 use Rattle.rvc_top.specs.Forms.{FileForm, spelled_form, checked_form}
+use Rattle.rvc_top.specs.Stores.{Stored, stored_form, store_text, image_form}
 use Rattle.rvc_top.specs.Words.{Words, meaning}
 use Rattle.rvc_top.specs.Examples.{example_text}
+use Rattle.rvc_top.specs.declared.boot.Booted.{Booted}
 use Rattle.rvc_top.specs.declared.command.Command.{Command}
-use Rattle.rvc_top.specs.declared.command.Command.TheVariants.{Print, Check, Rv, Run, Drive, TableText}
+use Rattle.rvc_top.specs.declared.command.Command.TheVariants.{Print, Check, Rv, Run, Drive}
+use Rattle.rvc_top.specs.declared.command.Command.TheVariants.{TableText}
 use Rattle.rvc_top.specs.declared.command.Command.TheVariants.{TableJson, Example as ExampleText}
+use Rattle.rvc_top.specs.declared.command.Command.TheVariants.{Lossy, Store, Boot, Audit, Lines}
 use Rattle.rvc_top.specs.declared.command.Driving.{Driving}
 use Rattle.rvc_top.specs.declared.status.Status.{Status}
 use Rattle.rvc_top.specs.declared.status.Status.TheVariants.{Done, Usage, ScheduleRefused}
@@ -105,6 +116,43 @@ rv_replay n protocol = played_so rv_play schedule_limits (rv_watched protocol n)
 abbrev pub run_replay : ℕ → ℕ → Mode → CheckedProtocol → Replay
 run_replay n k mode protocol = played_so run_play schedule_limits (run_start protocol mode n k)
 
+-- A schedule of steps and of moves of the network is played on the two controllers of the protocol
+-- in this mode, with n remotes and k slots, over links that lose, repeat and reorder. No claim is
+-- looked at.
+abbrev pub lossy_replay : ℕ → ℕ → Mode → CheckedProtocol → Replay
+lossy_replay n k mode protocol =
+    played_so lossy_play schedule_limits (lossy_start protocol.protocol mode n k)
+
+-- A schedule of steps is played on the two controllers of the protocol in this mode, with n remotes
+-- and k slots, once for each of so many cache lines, all over the same links. No claim is looked
+-- at.
+abbrev pub array_replay : ℕ → ℕ → Mode → ℕ → CheckedProtocol → Replay
+array_replay n k mode lines protocol =
+    played_so array_play schedule_limits (array_begin protocol.protocol mode n k lines)
+
+-- A schedule of steps is played as `run` plays it on the protocol and in the mode of a control
+-- store.
+abbrev pub boot_replay : ℕ → ℕ → Booted → Replay
+boot_replay n k booted = run_replay n k booted.mode booted.checked
+
+-- What is said of a trace of which this is found: how many events it tells of, or its first line
+-- that is refused.
+abbrev pub audit_said : Outcome → Said
+audit_said (Accepted events) = done (audit_ok_text events)
+audit_said (RefusedAt line) = record { status = ScheduleRefused; text = bad_trace_text line }
+
+-- The schedule is a trace of `run`, which is audited with n remotes. Nothing is written before it
+-- is decided what is said of it, so a read fault leaves nothing, and what was taken before it shows
+-- no line that is refused. No claim is looked at.
+abbrev pub audit_replay : ℕ → CheckedProtocol → Replay
+audit_replay n protocol = record {
+  broken = None;
+  says = λ text. audit_said (audited protocol.protocol n text);
+  stop = λ text. stop_of audit_limits (audited protocol.protocol n text);
+  Leaves = λ text left old new. (new ≡ Some old)
+      × ((taken : Text) × BreaksOff audit_limits (audit_start protocol.protocol n) text left taken);
+}
+
 -- What the two controllers of a protocol are given before a run that a number chooses.
 abbrev pub driven_setting : Driving → CheckedProtocol → Setting
 driven_setting d protocol =
@@ -127,8 +175,13 @@ AreDrivable d =
 -- schedule of events on its rendezvous meaning with n remotes, from 1 to 64, up to where a claim of
 -- the file is broken. `run`: the trace of a schedule of steps on its two controllers in a mode,
 -- with n remotes and from 2 to 64 slots, up to there too. `drive`: what is counted over a run of
--- its controllers that a number chooses. `table` and `json`: the text and the JSON of its table in
--- a mode. `example`: the text of the example.
+-- its controllers that a number chooses. `lossy`: the trace of a schedule of steps and of moves of
+-- the network over links that lose, repeat and reorder, with as many remotes and slots. `store`:
+-- the control store of the protocol in a mode. `boot`: what `run` does, for the protocol and the
+-- mode of the control store that the file is. `audit`: what the rendezvous meaning says of a trace
+-- with n remotes. `lines`: the trace of a schedule of steps for from 1 to 16 cache lines over the
+-- same links. `table` and `json`: the text and the JSON of its table in a mode. `example`: the text
+-- of the example.
 abbrev pub describe : Option Command → Description
 describe None = without_numbers (WritesText record { status = Usage; text = usage_text })
 describe (Some Print) = without_numbers (RepliesToFile Protocol spelled_form
@@ -146,6 +199,25 @@ describe (Some (Run n k mode)) = record {
 describe (Some (Drive d)) = record {
   Numbers = AreDrivable d;
   task = RepliesToFile CheckedProtocol checked_form (λ protocol. done (drive_text d protocol));
+}
+describe (Some (Lossy n k mode)) = record {
+  Numbers = ((1 ≤ n) × (n ≤ 64)) × ((2 ≤ k) × (k ≤ 64));
+  task = ReplaysSchedule CheckedProtocol checked_form schedule_limits (lossy_replay n k mode);
+}
+describe (Some (Store mode)) = without_numbers (RepliesToFile Stored stored_form
+    (λ stored. done (store_text mode stored)))
+describe (Some (Boot n k)) = record {
+  Numbers = ((1 ≤ n) × (n ≤ 64)) × ((2 ≤ k) × (k ≤ 64));
+  task = ReplaysSchedule Booted image_form schedule_limits (boot_replay n k);
+}
+describe (Some (Audit n)) = record {
+  Numbers = (1 ≤ n) × (n ≤ 64);
+  task = ReplaysSchedule CheckedProtocol checked_form audit_limits (audit_replay n);
+}
+describe (Some (Lines n k mode lines)) = record {
+  Numbers = (((1 ≤ n) × (n ≤ 64)) × ((2 ≤ k) × (k ≤ 64))) × ((1 ≤ lines) × (lines ≤ 16));
+  task = ReplaysSchedule CheckedProtocol checked_form schedule_limits
+      (array_replay n k mode lines);
 }
 describe (Some (TableText mode)) = without_numbers (RepliesToFile CheckedProtocol checked_form
     (λ protocol. done (table_text (table_in protocol.protocol mode))))

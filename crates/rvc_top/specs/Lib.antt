@@ -2,9 +2,13 @@ pub mod Examples
 pub mod Words
 pub mod Texts
 pub mod Forms
+pub mod Stores
 pub mod Commands
 pub mod Verdict
 pub mod Endings
 pub mod Runs
 pub mod FileRead
 pub mod Reply
+pub mod Storing
+pub mod BootedRuns
+pub mod AuditedRuns

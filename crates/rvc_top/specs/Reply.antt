@@ -6,8 +6,11 @@ use Rattle.rv_base.specs.Whole.{TakesPart}
 use Rattle.schedule_replay.specs.declared.replaying.Replayed.{Replayed}
 use Rattle.schedule_replay.specs.declared.replaying.Replayed.TheVariants as replay
 use Rattle.rvc_top.specs.Texts.{bad_line_text, too_many_text}
-use Rattle.rvc_top.specs.Commands.{Task}
-use Rattle.rvc_top.specs.Verdict.{TaskVerdict}
+use Rattle.trace_audit.specs.AuditedTrace.{Accepted, RefusedAt}
+use Rattle.trace_audit.specs.declared.auditing.Audited.{Audited}
+use Rattle.trace_audit.specs.declared.auditing.Audited.TheVariants as audit
+use Rattle.rvc_top.specs.Commands.{Said, Task, audit_said}
+use Rattle.rvc_top.specs.Verdict.{IsSaid, TaskVerdict}
 use Rattle.rvc_top.specs.Endings.{Kind, Decided, ReadFailed, WriteFailed, Wanting, InWords, InFile}
 use Rattle.rvc_top.specs.Endings.{InSchedule, ToEnd, kind_of}
 use Rattle.rvc_top.specs.declared.reply.Reply.{Reply}
@@ -37,6 +40,22 @@ FileDecides status = FileDecidesKind (kind_of status)
 abbrev pub IsReplyTo : Task → Text → Reply → Type 0
 IsReplyTo task file reply =
     (schedule : Text) → TaskVerdict task file schedule reply.status reply.text.items
+
+-- ---- a reply to a trace
+
+-- This is replied, or there is no memory for the reply.
+abbrev pub RepliesSo : Said → Result Reply Failure → Type 0
+RepliesSo said (Ok reply) = IsSaid said reply.status reply.text.items
+RepliesSo said (Err Read) = ⊥
+RepliesSo said (Err WantsMemory) = Unit {0}
+
+-- What is replied to a trace whose audit ended so. Where a read failed, or there was no memory,
+-- that takes the reply's place.
+abbrev pub RepliesToAudit : Audited → Result Reply Failure → Type 0
+RepliesToAudit (audit.Sound events) reply = RepliesSo (audit_said (Accepted events)) reply
+RepliesToAudit (audit.BadLine line) reply = RepliesSo (audit_said (RefusedAt line)) reply
+RepliesToAudit audit.ReadFault reply = reply ≡ Err Read
+RepliesToAudit audit.NoMemory reply = reply ≡ Err WantsMemory
 
 -- ---- what is written
 

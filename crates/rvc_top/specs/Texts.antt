@@ -32,3 +32,11 @@ bad_line_text line = codes "error schedule line " ++ (decimal line ++ codes "\n"
 -- The text for a schedule with more lines than it may have.
 abbrev pub too_many_text : Text
 too_many_text = codes "error schedule too long\n"
+
+-- The text for a trace that is accepted, which shows so many events.
+abbrev pub audit_ok_text : ℕ → Text
+audit_ok_text events = codes "audit ok " ++ (decimal events ++ codes "\n")
+
+-- The text for a trace whose line with this number, counted from 1, is the first that is refused.
+abbrev pub bad_trace_text : ℕ → Text
+bad_trace_text line = codes "error trace line " ++ (decimal line ++ codes "\n")

@@ -24,8 +24,8 @@ impl FromFile for Checked {
     }
 }
 
-// What the protocol that a file spells, with the lines of its items, comes to.
-fn check_spelled(alloc: Global, spelled: Spelled) -> Result<FileRead<Checked>, NoMemory>
+/// What the protocol that a file spells, with the lines of its items, comes to.
+pub fn check_spelled(alloc: Global, spelled: Spelled) -> Result<FileRead<Checked>, NoMemory>
     requires { length spelled.lines ≡ length (item_codes spelled.protocol) }
     ensures { IfOk result (IsJudged spelled.protocol spelled.lines) }
 {

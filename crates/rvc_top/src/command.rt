@@ -1,8 +1,10 @@
 //! The words of the command line.
 
 ghost use Rattle.std.specs.Prelude.{◌≡◌, ◌≤◌, map, string_bytes, IfSome};
-ghost use Rattle.std.specs.Option.{option_map};
-ghost use Rattle.rvc_top.specs.Words.{meaning, remotes_of, slots_of, mode_of, example_of, drive_of};
+ghost use Rattle.std.specs.Option.{option_map, option_and_then};
+ghost use Rattle.rv_base.specs.Numbers.{number_of};
+ghost use Rattle.rvc_top.specs.Words.{meaning, unless_zero, slots_of, mode_of, example_of};
+ghost use Rattle.rvc_top.specs.Words.{drive_of};
 ghost use Rattle.rvc_top.specs.Commands.{describe, AreDrivable};
 
 use crate::Example;
@@ -25,6 +27,24 @@ pub enum Command {
     /// Make a run of the two controllers of the protocol file that a number chooses, and write what
     /// is counted over it.
     Drive(Driving),
+    /// Replay the schedule of steps and of moves of the network on the two controllers of the
+    /// protocol file with so many remotes, from 1 to 64, and so many slots, from 2 to 64, in this
+    /// mode, over links that lose, repeat and reorder, and write the trace.
+    Lossy(u8, u8, Mode),
+    /// Write the control store of the protocol file in this mode.
+    Store(Mode),
+    /// Replay the schedule of steps on the two controllers of the protocol whose control store the
+    /// file is, in the mode of that store, with so many remotes, from 1 to 64, and so many slots,
+    /// from 2 to 64, and write the trace.
+    Boot(u8, u8),
+    /// Say of the schedule, which is a trace of `Run` for the protocol file with so many remotes,
+    /// from 1 to 64, whether the events that it tells are a run of the rendezvous meaning, and its
+    /// end is the configuration reached; else which line is the first that is wrong.
+    Audit(u8),
+    /// Replay the schedule of steps on the two controllers of the protocol file with so many
+    /// remotes, from 1 to 64, and so many slots, from 2 to 64, in this mode, for so many cache
+    /// lines, from 1 to 16, that share their links, and write the trace.
+    Lines(u8, u8, Mode, u8),
     /// Write the table of the controllers of the protocol file in this mode, to be read.
     TableText(Mode),
     /// Write the same table as JSON.
@@ -48,12 +68,13 @@ pub struct Driving {
     pub seed: u64,
 }
 
-// The number of remotes that a word gives: from 1 to 64, in decimal without leading zeros.
-fn remotes_in(word: &[u8]) -> Option<u8>
-    ensures value { result ≡ remotes_of word.now }
-    ensures limits { IfSome result (λ n. (1 ≤ n) × (n ≤ 64)) }
+// The number that a word gives, as that of remotes or of cache lines: from 1 to `most`, in decimal
+// without leading zeros.
+fn some_in(word: &[u8], most: u8) -> Option<u8>
+    ensures value { result ≡ option_and_then unless_zero (number_of word.now most) }
+    ensures limits { IfSome result (λ n. (1 ≤ n) × (n ≤ most)) }
 {
-    match read_number(word, 64) {
+    match read_number(word, most as u64) {
         None | Some(0) => None,
         Some(n) => Some(n as u8),
     }
@@ -100,7 +121,7 @@ fn driving_in(n: &str, k: &str, mode: &str, turns: &str, seed: &str) -> Option<D
     ensures limits { IfSome result AreDrivable }
 {
     Some(Driving {
-        remotes: remotes_in(n.as_bytes())?,
+        remotes: some_in(n.as_bytes(), 64)?,
         slots: slots_in(k.as_bytes())?,
         mode: mode_in(mode)?,
         turns: read_number(turns.as_bytes(), 100_000)? as u32,
@@ -118,11 +139,30 @@ pub fn words_mean(words: &[String]) -> Option<Command>
         [name, _path] if name.as_str() == "print" => Some(Command::Print),
         [name, _path] if name.as_str() == "check" => Some(Command::Check),
         [name, which] if name.as_str() == "example" => Some(Command::Example(example_in(which)?)),
-        [name, _path, n] if name.as_str() == "rv" => Some(Command::Rv(remotes_in(n.as_bytes())?)),
+        [name, _path, n] if name.as_str() == "rv" => Some(Command::Rv(some_in(n.as_bytes(), 64)?)),
+        [name, _path, n] if name.as_str() == "audit" => {
+            Some(Command::Audit(some_in(n.as_bytes(), 64)?))
+        }
+        [name, _path, mode] if name.as_str() == "store" => Some(Command::Store(mode_in(mode)?)),
+        [name, _path, n, k] if name.as_str() == "boot" => Some(Command::Boot(
+            some_in(n.as_bytes(), 64)?,
+            slots_in(k.as_bytes())?,
+        )),
         [name, _path, n, k, mode] if name.as_str() == "run" => Some(Command::Run(
-            remotes_in(n.as_bytes())?,
+            some_in(n.as_bytes(), 64)?,
             slots_in(k.as_bytes())?,
             mode_in(mode)?,
+        )),
+        [name, _path, n, k, mode] if name.as_str() == "lossy" => Some(Command::Lossy(
+            some_in(n.as_bytes(), 64)?,
+            slots_in(k.as_bytes())?,
+            mode_in(mode)?,
+        )),
+        [name, _path, n, k, mode, count] if name.as_str() == "lines" => Some(Command::Lines(
+            some_in(n.as_bytes(), 64)?,
+            slots_in(k.as_bytes())?,
+            mode_in(mode)?,
+            some_in(count.as_bytes(), 16)?,
         )),
         [name, _path, n, k, mode, turns, seed] if name.as_str() == "drive" => {
             Some(Command::Drive(driving_in(n, k, mode, turns, seed)?))

@@ -94,8 +94,8 @@ pub fn fault_on(alloc: Global, line: u32, code: u8) -> Result<Vec<u8>, NoMemory>
     Ok(text.into_bytes())
 }
 
-// The text for a file with more bytes than a file may have.
-fn too_long(alloc: Global) -> Result<Vec<u8>, NoMemory>
+/// The text for a file with more bytes than a file may have.
+pub fn too_long(alloc: Global) -> Result<Vec<u8>, NoMemory>
     ensures { IfOk result (λ text. text.items ≡ too_long_text) }
 {
     Ok(b"error file too long\n".to_vec(alloc)?)

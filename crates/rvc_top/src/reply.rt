@@ -20,9 +20,9 @@ pub struct Reply {
 /// Why there is no reply.
 #[derive(Clone, Copy, Debug, PartialEq, Eq, Drop)]
 pub enum Failure {
-    /// A read of the file failed.
+    /// A read of the file failed, or of a trace that is audited.
     Read,
-    /// There is no memory, or the file had none for a read.
+    /// There is no memory, or the file or the trace had none for a read.
     NoMemory,
 }
 

@@ -22,6 +22,8 @@ ghost use Rattle.rvc_top.specs.Words.{meaning};
 ghost use Rattle.rvc_top.specs.Commands.{asked, describe, driven_setting};
 ghost use Rattle.rvc_top.specs.declared.command.Driving.{Driving as ADriving};
 ghost use Rattle.rvc_top.specs.Forms.{checked_form};
+ghost use Rattle.rvc_top.specs.Stores.{image_form};
+ghost use Rattle.rvc_top.specs.declared.boot.Booted.{Booted as ABooted};
 ghost use Rattle.rvc_top.specs.Verdict.{Verdict};
 ghost use Rattle.rvc_top.specs.Endings.{ReadsFile, ReadsSchedule, NeedsNoSchedule, WhereTold};
 ghost use Rattle.rvc_top.specs.Endings.{most_of_file, most_of_schedule, DecidesSchedule};
@@ -33,8 +35,9 @@ use crate::example::example_text;
 use crate::file_command::run_file_command;
 use crate::file_commands::{Check, Print, TableJson, TableText};
 use crate::reply::deliver;
-use crate::run::run;
-use crate::rv::rv;
+use crate::schedule_command::run_schedule_command;
+use crate::schedule_commands::{Audit, Boot, Lines, Lossy, Run, Rv};
+use crate::store::StoreImage;
 use crate::{Command, Status, words_mean};
 use rv_base::{Sink, Source};
 use std::alloc::Global;
@@ -42,10 +45,11 @@ use std::alloc::Global;
 const USAGE: &[u8] = b"error usage\n";
 
 /// Does what the words after the program's name ask. `words` are these words, `file` is the
-/// protocol file and `schedule` the standard input: of the two those are read that the command
-/// uses, the file first, and the schedule behind it line by line. The text of the command is
-/// written to `out`, or the one that says why the words, the file or the schedule is refused.
-/// Answers how the run ends; the number of the answer is the program's exit status.
+/// protocol file, or the control store where the command takes one, and `schedule` the standard
+/// input, which is a schedule or a trace: of the two those are read that the command uses, the file
+/// first, and the schedule behind it line by line. The text of the command is written to `out`, or
+/// the one that says why the words, the file or the schedule is refused. Answers how the run ends;
+/// the number of the answer is the program's exit status.
 pub fn rvc<P: Source, Q: Source, O: Sink>(
     alloc: Global,
     words: &[String],
@@ -56,12 +60,14 @@ pub fn rvc<P: Source, Q: Source, O: Sink>(
     // Where the sink tells its bytes, and so does each source that the command reads, but for the
     // schedule where the file is refused or a claim is broken before the first line: after Done,
     // Usage, FileRefused, ScheduleRefused and ClaimBroken that is the status of the verdict, and
-    // its text is written. Done is answered for `rv` and `run` where the whole schedule is played
-    // and no claim is broken, and ClaimBroken exactly where one is, at the start or after a line,
-    // and no line before is refused. After a write fault or want of memory a front of the verdict's
-    // text is written. After a read fault of the file nothing is; after one of the schedule, which
-    // comes only where the file is well-formed, the blocks of the lines whose LF was taken, none of
-    // which is refused and after none of which a claim is broken.
+    // its text is written. Done is answered for `rv`, `run` and `boot` where the whole schedule is
+    // played and no claim is broken, and ClaimBroken exactly where one is, at the start or after a
+    // line, and no line before is refused; `lossy` and `lines` look at no claim. `audit` answers
+    // Done where the trace is accepted, and ScheduleRefused where a line of it isn't. After a write
+    // fault or want of memory a front of the verdict's text is written. After a read fault of the
+    // file nothing is; after one of the schedule, which comes only where the file is well-formed,
+    // or is a control store, the blocks of the lines whose LF was taken, none of which is refused
+    // and after none of which a claim is broken; for `audit` nothing.
     ensures bytes { WhereTold (asked words.now) (P.left file.old) (Q.left schedule.old)
         (λ f s. IfSome (O.taken out.old) (λ taken. Ends (Verdict words.now f s)
         (FaultLeaves (asked words.now) (P.faults file.old) (P.faults file.new)
@@ -146,6 +152,16 @@ pub fn rvc<P: Source, Q: Source, O: Sink>(
         → (steps : List Step) → AllByRecursion (IsRefined (run_start checked mode n k).setting)
         (async_run (run_start checked mode n k).setting (run_start checked mode n k).config steps) }
 
+    // And so is what `boot` shows, for the protocol and the mode of the control store that the file
+    // is.
+    ensures boot_refines { (n k : ℕ) (f : Text) (booted : ABooted)
+        → meaning (map string_bytes words.now) ≡ Some (Command.Boot n k)
+        → image_form.Holds f booted
+        → (steps : List Step)
+        → AllByRecursion (IsRefined (run_start booted.checked booted.mode n k).setting)
+        (async_run (run_start booted.checked booted.mode n k).setting
+        (run_start booted.checked booted.mode n k).config steps) }
+
     // Where `drive` writes `stopped yes`, the run stopped before its last turn, since no step was
     // enabled; and then no event takes place either in what its last configuration means.
     ensures still { (d : ADriving) (f : Text) (checked : CheckedProtocol)
@@ -177,9 +193,22 @@ fn carry_out<P: Source, Q: Source, O: Sink>(
         None => deliver(out, Status::Usage, USAGE),
         Some(Command::Print) => run_file_command(alloc, &Print, file, out),
         Some(Command::Check) => run_file_command(alloc, &Check, file, out),
-        Some(Command::Rv(n)) => rv(alloc, n, file, schedule, out),
-        Some(Command::Run(n, k, mode)) => run(alloc, n, k, mode, file, schedule, out),
+        Some(Command::Rv(n)) => run_schedule_command(alloc, &Rv(n), file, schedule, out),
+        Some(Command::Run(n, k, mode)) => {
+            run_schedule_command(alloc, &Run(n, k, mode), file, schedule, out)
+        }
         Some(Command::Drive(driving)) => run_file_command(alloc, &driving, file, out),
+        Some(Command::Lossy(n, k, mode)) => {
+            run_schedule_command(alloc, &Lossy(n, k, mode), file, schedule, out)
+        }
+        Some(Command::Store(mode)) => run_file_command(alloc, &StoreImage(mode), file, out),
+        Some(Command::Boot(n, k)) => {
+            run_schedule_command(alloc, &Boot(n, k), file, schedule, out)
+        }
+        Some(Command::Audit(n)) => run_schedule_command(alloc, &Audit(n), file, schedule, out),
+        Some(Command::Lines(n, k, mode, lines)) => {
+            run_schedule_command(alloc, &Lines(n, k, mode, lines), file, schedule, out)
+        }
         Some(Command::TableText(mode)) => run_file_command(alloc, &TableText(mode), file, out),
         Some(Command::TableJson(mode)) => run_file_command(alloc, &TableJson(mode), file, out),
         Some(Command::Example(which)) => deliver(out, Status::Done, example_text(which)),

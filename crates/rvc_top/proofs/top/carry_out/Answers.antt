@@ -10,6 +10,7 @@ use Rattle.rvc_top.specs.declared.command.Command.TheVariants as named
 use Rattle.rvc_top.specs.declared.status.Status.{Status}
 use Rattle.rvc_top.specs.declared.status.Status.TheVariants.{Usage}
 use Rattle.rvc_top.proofs.Forms.{spelled_form-is, checked_form-is}
+use Rattle.rvc_top.proofs.StoreForms.{stored_form-is, image_form-is}
 use Rattle.rvc_top.proofs.Runs.{run-written, run-beside}
 use Rattle.rvc_top.proofs.top.carry_out.Goals as goal
 
@@ -107,16 +108,125 @@ returns-in-Some-TableJson g c =
     (run-beside _ _ _ _ _ c.run_file_command-in-Some-TableJson.result _
     record { at = refl; same = refl } c.run_file_command-in-Some-TableJson.ensures)
 
+pub run_file_command-requires-in-Some-Store : goal.run_file_command-requires-in-Some-Store
+run_file_command-requires-in-Some-Store g c =
+    record { form = stored_form-is; numbers = tt }
+
+pub returns-in-Some-Store : goal.returns-in-Some-Store
+returns-in-Some-Store g c =
+    meant c.args.command c.in-Some-Store.field-0 (named.Store c.in-Some-Store.mode)
+    c.in-Some-Store.is (rw c.in-Some-Store.is at c.in-Some-Store.field-0-is) _ _ _
+    c.run_file_command-in-Some-Store.result
+    (run-beside _ _ _ _ _ c.run_file_command-in-Some-Store.result _
+    record { at = refl; same = refl } c.run_file_command-in-Some-Store.ensures)
+
+pub run_schedule_command-requires : goal.run_schedule_command-requires
+run_schedule_command-requires g c =
+    let found = c.in-Some-Rv in
+    record {
+      form = checked_form-is;
+      numbers =
+          numbers-of c.args.command found.field-0
+          (named.Rv found.n) found.is
+          (rw found.is at found.field-0-is) c.requires;
+    }
+
 pub returns-in-Some-Rv : goal.returns-in-Some-Rv
 returns-in-Some-Rv g c =
-    meant c.args.command c.in-Some-Rv.field-0 (named.Rv c.in-Some-Rv.n) c.in-Some-Rv.is
-    (rw c.in-Some-Rv.is at c.in-Some-Rv.field-0-is) _ _ _ c.rv.result c.rv.ensures
+    let found = c.in-Some-Rv in
+    meant c.args.command found.field-0 (named.Rv found.n)
+    found.is (rw found.is at found.field-0-is) _ _ _ c.run_schedule_command.result
+    c.run_schedule_command.ensures
+
+pub run_schedule_command-requires-in-Some-Run : goal.run_schedule_command-requires-in-Some-Run
+run_schedule_command-requires-in-Some-Run g c =
+    let found = c.in-Some-Run in
+    record {
+      form = checked_form-is;
+      numbers =
+          numbers-of c.args.command found.field-0
+          (named.Run found.n found.k found.mode) found.is
+          (rw found.is at found.field-0-is) c.requires;
+    }
 
 pub returns-in-Some-Run : goal.returns-in-Some-Run
 returns-in-Some-Run g c =
     let found = c.in-Some-Run in
-    meant c.args.command found.field-0 (named.Run found.n found.k found.mode) found.is
-    (rw found.is at found.field-0-is) _ _ _ c.run.result c.run.ensures
+    meant c.args.command found.field-0 (named.Run found.n found.k found.mode)
+    found.is (rw found.is at found.field-0-is) _ _ _ c.run_schedule_command-in-Some-Run.result
+    c.run_schedule_command-in-Some-Run.ensures
+
+pub run_schedule_command-requires-in-Some-Lossy : goal.run_schedule_command-requires-in-Some-Lossy
+run_schedule_command-requires-in-Some-Lossy g c =
+    let found = c.in-Some-Lossy in
+    record {
+      form = checked_form-is;
+      numbers =
+          numbers-of c.args.command found.field-0
+          (named.Lossy found.n found.k found.mode) found.is
+          (rw found.is at found.field-0-is) c.requires;
+    }
+
+pub returns-in-Some-Lossy : goal.returns-in-Some-Lossy
+returns-in-Some-Lossy g c =
+    let found = c.in-Some-Lossy in
+    meant c.args.command found.field-0 (named.Lossy found.n found.k found.mode)
+    found.is (rw found.is at found.field-0-is) _ _ _ c.run_schedule_command-in-Some-Lossy.result
+    c.run_schedule_command-in-Some-Lossy.ensures
+
+pub run_schedule_command-requires-in-Some-Boot : goal.run_schedule_command-requires-in-Some-Boot
+run_schedule_command-requires-in-Some-Boot g c =
+    let found = c.in-Some-Boot in
+    record {
+      form = image_form-is;
+      numbers =
+          numbers-of c.args.command found.field-0
+          (named.Boot found.n found.k) found.is
+          (rw found.is at found.field-0-is) c.requires;
+    }
+
+pub returns-in-Some-Boot : goal.returns-in-Some-Boot
+returns-in-Some-Boot g c =
+    let found = c.in-Some-Boot in
+    meant c.args.command found.field-0 (named.Boot found.n found.k)
+    found.is (rw found.is at found.field-0-is) _ _ _ c.run_schedule_command-in-Some-Boot.result
+    c.run_schedule_command-in-Some-Boot.ensures
+
+pub run_schedule_command-requires-in-Some-Audit : goal.run_schedule_command-requires-in-Some-Audit
+run_schedule_command-requires-in-Some-Audit g c =
+    let found = c.in-Some-Audit in
+    record {
+      form = checked_form-is;
+      numbers =
+          numbers-of c.args.command found.field-0
+          (named.Audit found.n) found.is
+          (rw found.is at found.field-0-is) c.requires;
+    }
+
+pub returns-in-Some-Audit : goal.returns-in-Some-Audit
+returns-in-Some-Audit g c =
+    let found = c.in-Some-Audit in
+    meant c.args.command found.field-0 (named.Audit found.n)
+    found.is (rw found.is at found.field-0-is) _ _ _ c.run_schedule_command-in-Some-Audit.result
+    c.run_schedule_command-in-Some-Audit.ensures
+
+pub run_schedule_command-requires-in-Some-Lines : goal.run_schedule_command-requires-in-Some-Lines
+run_schedule_command-requires-in-Some-Lines g c =
+    let found = c.in-Some-Lines in
+    record {
+      form = checked_form-is;
+      numbers =
+          numbers-of c.args.command found.field-0
+          (named.Lines found.n found.k found.mode found.lines) found.is
+          (rw found.is at found.field-0-is) c.requires;
+    }
+
+pub returns-in-Some-Lines : goal.returns-in-Some-Lines
+returns-in-Some-Lines g c =
+    let found = c.in-Some-Lines in
+    meant c.args.command found.field-0 (named.Lines found.n found.k found.mode found.lines)
+    found.is (rw found.is at found.field-0-is) _ _ _ c.run_schedule_command-in-Some-Lines.result
+    c.run_schedule_command-in-Some-Lines.ensures
 
 pub returns-in-Some-Example : goal.returns-in-Some-Example
 returns-in-Some-Example g c =

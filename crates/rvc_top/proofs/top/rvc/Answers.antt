@@ -6,7 +6,7 @@ use Rattle.rvc_top.specs.Commands.{asked, describe}
 use Rattle.rvc_top.specs.declared.command.Command.{Command}
 use Rattle.rvc_top.proofs.EveryRun.{owed}
 use Rattle.rvc_top.proofs.Complete.{run-of, run-complete, no-form}
-use Rattle.rvc_top.proofs.RunRefines.{run-refines, driving-still}
+use Rattle.rvc_top.proofs.RunRefines.{run-refines, boot-refines, driving-still}
 use Rattle.rvc_top.proofs.top.rvc.Goals as goal
 
 pub returns-clause-bytes : goal.returns-clause-bytes
@@ -118,6 +118,12 @@ returns-clause-refines g c n k mode f checked means holds =
     let numbers = subst (λ (command : Option Command). (describe command).Numbers)
     (c.words_mean.ensures.means ∙ means) c.words_mean.ensures.limits in
     run-refines n k mode numbers f checked holds
+
+pub returns-clause-boot_refines : goal.returns-clause-boot_refines
+returns-clause-boot_refines g c n k f booted means holds =
+    let numbers = subst (λ (command : Option Command). (describe command).Numbers)
+    (c.words_mean.ensures.means ∙ means) c.words_mean.ensures.limits in
+    boot-refines n k numbers f booted holds
 
 pub returns-clause-still : goal.returns-clause-still
 returns-clause-still g c d f checked means holds =
