@@ -108,8 +108,8 @@ const NO_FORM: [&[&str]; 26] = [
     &["example", "migratory", "lean"],
     &["run", "p", "1", "plain"],
     &["drive", "p", "1", "2", "plain", "6"],
-    &["lossy", "p", "1", "2", "plain"],
-    &["store", "p", "plain"],
+    &["lossy", "p", "1", "2"],
+    &["store", "p"],
 ];
 
 // That these words end with a usage error, and nothing is read.

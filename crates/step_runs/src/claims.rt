@@ -2,8 +2,8 @@
 
 use crate::migration::{all_idle, asked, asks, granted, grants};
 use crate::recall::requests_cross_over;
-use crate::stepped::{ONE_LEAN, steps_end};
-use memory_runs::{MIGRATORY_2, Wrong, ends, joined, migratory_body, over_file};
+use crate::stepped::ONE_LEAN;
+use memory_runs::{MIGRATORY_2, Wrong, ends, joined, migratory_body, over_file, schedule_ends};
 use rvc_top::Status;
 use std::alloc::Global;
 
@@ -25,7 +25,7 @@ const REST: [&[u8]; 3] = [b"down 0\n", b"", b"home fly"];
 
 // That a run ends where the claim is broken, whatever follows.
 fn breaks_before(alloc: Global, rest: &'static [u8]) -> Result<(), Wrong> {
-    steps_end(
+    schedule_ends(
         alloc,
         &ONE_LEAN,
         &[MIGRATORY_2, migratory_body(), NONE_HAS_IT],

@@ -2,10 +2,10 @@
 
 use crate::lines::waits;
 use crate::migration::{arrived, arrives, asked, asks, granted, grants, stands};
-use crate::stepped::{ONE_LEAN, stepped};
+use crate::stepped::ONE_LEAN;
 use memory_runs::{
     Case, MIGRATORY, Wrong, each_file_read_fails, each_schedule_read_fails, each_write_fails,
-    joined,
+    joined, over_schedule,
 };
 use rvc_top::Status;
 use std::alloc::Global;
@@ -17,7 +17,7 @@ fn whole_text(alloc: Global) -> Result<Vec<u8>, Wrong> {
 
 // A run with a schedule of these pieces, and its text. The file has 830 bytes.
 fn migrates<'a>(schedule: &'a [&'a [u8]], text: &'a [u8]) -> Case<'a> {
-    stepped(&ONE_LEAN, &[MIGRATORY], schedule, Status::Done, text)
+    over_schedule(&ONE_LEAN, &[MIGRATORY], schedule, Status::Done, text)
 }
 
 // The file is read in so many calls, the last of which tells the end, and then the schedule is.

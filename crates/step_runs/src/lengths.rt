@@ -1,9 +1,10 @@
 //! How long a schedule may be, and how much of it is read.
 
 use crate::migration::all_idle;
-use crate::stepped::{ONE_LEAN, stepped};
+use crate::stepped::ONE_LEAN;
 use memory_runs::{
     MIGRATORY, Wrong, ends_by, ends_over_endless_file, ends_over_endless_schedule, left_after,
+    over_schedule,
 };
 use rvc_top::Status;
 use std::alloc::Global;
@@ -13,7 +14,7 @@ fn ends_over_lines(alloc: Global, count: usize, status: Status, text: &[u8]) -> 
     match vec![in alloc; b'\n'; count] {
         Ok(lines) => {
             let schedule = [lines.as_slice()];
-            let case = stepped(&ONE_LEAN, &[MIGRATORY], &schedule, status, text);
+            let case = over_schedule(&ONE_LEAN, &[MIGRATORY], &schedule, status, text);
             ends_by(alloc, &case, 4_096)
         }
         Err(_) => Err(Wrong::NoMemory),
@@ -39,7 +40,7 @@ const ENDLESS: [(u8, &[u8]); 2] = [
 #[test]
 fn a_schedule_without_end_is_refused(rt: HostRuntime) -> Result<(), Wrong> {
     for (byte, text) in ENDLESS {
-        let case = stepped(&ONE_LEAN, &[MIGRATORY], &[], Status::ScheduleRefused, text);
+        let case = over_schedule(&ONE_LEAN, &[MIGRATORY], &[], Status::ScheduleRefused, text);
         ends_over_endless_schedule(rt.alloc(), &case, byte)?;
     }
     Ok(())
@@ -48,7 +49,7 @@ fn a_schedule_without_end_is_refused(rt: HostRuntime) -> Result<(), Wrong> {
 #[test]
 fn a_file_without_end_is_too_long(rt: HostRuntime) -> Result<(), Wrong> {
     let text = b"error file too long\n";
-    let case = stepped(&ONE_LEAN, &[], &[], Status::FileRefused, text);
+    let case = over_schedule(&ONE_LEAN, &[], &[], Status::FileRefused, text);
     ends_over_endless_file(rt.alloc(), &case, b'x')
 }
 
@@ -59,7 +60,7 @@ fn little_is_taken_past_a_refused_line(rt: HostRuntime) -> Result<(), Wrong> {
     let lines = vec![in rt.alloc(); b'\n'; 100_000].or(Err(Wrong::NoMemory))?;
     let schedule = [b"home fly\n", lines.as_slice()];
     let text = b"error schedule line 1\n";
-    let case = stepped(
+    let case = over_schedule(
         &ONE_LEAN,
         &[MIGRATORY],
         &schedule,

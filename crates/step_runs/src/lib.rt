@@ -1,6 +1,6 @@
 //! Tests of the command `run`: whole runs in memory, whose trace is given to the byte.
 //!
-//! - `stepped`: a run of `run`, and how it must end.
+//! - `stepped`: the words of runs of `run`.
 //! - `migration`: one remote that gets the line, step by step.
 //! - `recall`: the home asks for the line back, and what may cross that.
 //! - `slots`: requests that a home with few slots holds, nacks, drops and displaces.

@@ -1,8 +1,8 @@
 //! Lines that say nothing, or no step.
 
 use crate::migration::{asked, asks};
-use crate::stepped::{ONE_LEAN, steps_end};
-use memory_runs::{MIGRATORY, Wrong};
+use crate::stepped::ONE_LEAN;
+use memory_runs::{MIGRATORY, Wrong, schedule_ends};
 use rvc_top::Status;
 use std::alloc::Global;
 
@@ -27,7 +27,7 @@ abstract
 
 // That a run with this schedule tells the two steps.
 fn tells_both(alloc: Global, schedule: &[u8]) -> Result<(), Wrong> {
-    steps_end(
+    schedule_ends(
         alloc,
         &ONE_LEAN,
         &[MIGRATORY],
@@ -47,7 +47,7 @@ fn blanks_and_comments_say_nothing(rt: HostRuntime) -> Result<(), Wrong> {
 
 #[test]
 fn a_malformed_line_is_told_behind_the_blocks_before(rt: HostRuntime) -> Result<(), Wrong> {
-    steps_end(
+    schedule_ends(
         rt.alloc(),
         &ONE_LEAN,
         &[MIGRATORY],
@@ -66,7 +66,7 @@ fn begins_with_comment(
     text: &[&[u8]],
 ) -> Result<(), Wrong> {
     match vec![in alloc; b'x'; letters] {
-        Ok(comment) => steps_end(
+        Ok(comment) => schedule_ends(
             alloc,
             &ONE_LEAN,
             &[MIGRATORY],

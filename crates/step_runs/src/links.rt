@@ -1,33 +1,7 @@
 //! What is under way on a link, and guards that have no target.
 
-use crate::stepped::steps_end;
-use memory_runs::{ARITH, Wrong};
+use memory_runs::{ARITH, THREE, Wrong, schedule_ends};
 use rvc_top::Status;
-
-// Home and remote send to each other.
-const THREE: &[u8] = b"\
-protocol three;
-message a down;
-message b up;
-home {
-  var j node = none;
-  start H;
-  state H {
-    to any j ! a goto H;
-    from any j ? b goto H;
-  }
-}
-remote {
-  start P;
-  state P {
-    tau goto Q;
-    from home ? a goto P;
-  }
-  state Q {
-    to home ! b goto P;
-  }
-}
-";
 
 // A request, an ack and a request go down, and arrive in this order.
 const PILES_UP: &[u8] = b"\
@@ -82,7 +56,7 @@ abstract
 
 #[test]
 fn three_packets_go_down_in_order(rt: HostRuntime) -> Result<(), Wrong> {
-    steps_end(
+    schedule_ends(
         rt.alloc(),
         &["run", "p", "1", "2", "plain"],
         &[THREE],
@@ -104,7 +78,7 @@ abstract
 
 #[test]
 fn nothing_is_sent_to_a_variable_that_holds_none(rt: HostRuntime) -> Result<(), Wrong> {
-    steps_end(
+    schedule_ends(
         rt.alloc(),
         &["run", "p", "1", "2", "plain"],
         &[ARITH],

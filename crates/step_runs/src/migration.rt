@@ -1,7 +1,7 @@
 //! One remote that gets the line, step by step.
 
-use crate::stepped::{ONE_LEAN, TWO_LEAN, steps_end};
-use memory_runs::{MIGRATORY, Wrong};
+use crate::stepped::{ONE_LEAN, TWO_LEAN};
+use memory_runs::{MIGRATORY, Wrong, schedule_ends};
 use rvc_top::Status;
 
 // Remote 0 asks for the line.
@@ -75,7 +75,7 @@ abstract
 
 #[test]
 fn a_reply_stands_for_the_ack(rt: HostRuntime) -> Result<(), Wrong> {
-    steps_end(
+    schedule_ends(
         rt.alloc(),
         &ONE_LEAN,
         &[MIGRATORY],
@@ -117,7 +117,7 @@ const ACKED: &[u8] = b"\
 
 #[test]
 fn each_request_has_its_ack_in_mode_plain(rt: HostRuntime) -> Result<(), Wrong> {
-    steps_end(
+    schedule_ends(
         rt.alloc(),
         &["run", "p", "1", "2", "plain"],
         &[MIGRATORY],
@@ -141,7 +141,7 @@ abstract
 
 #[test]
 fn without_a_step_all_stand_as_at_the_start(rt: HostRuntime) -> Result<(), Wrong> {
-    steps_end(
+    schedule_ends(
         rt.alloc(),
         &ONE_LEAN,
         &[MIGRATORY],
@@ -173,7 +173,7 @@ abstract
 
 #[test]
 fn a_step_that_is_not_enabled_changes_nothing(rt: HostRuntime) -> Result<(), Wrong> {
-    steps_end(
+    schedule_ends(
         rt.alloc(),
         &TWO_LEAN,
         &[MIGRATORY],

@@ -1,8 +1,8 @@
 //! The home asks remote 0, which has the line, to give it back for remote 1.
 
 use crate::migration::{arrived, arrives, asked, asks, granted, grants};
-use crate::stepped::{TWO_LEAN, steps_end};
-use memory_runs::{MIGRATORY, Wrong};
+use crate::stepped::TWO_LEAN;
+use memory_runs::{MIGRATORY, Wrong, schedule_ends};
 use rvc_top::Status;
 use std::alloc::Global;
 
@@ -46,7 +46,7 @@ fn ends_behind_recall(
     steps: &'static [u8],
     text: &'static [u8],
 ) -> Result<(), Wrong> {
-    steps_end(
+    schedule_ends(
         alloc,
         words,
         file,
@@ -164,6 +164,32 @@ abstract
 #[test]
 fn a_remote_that_answers_is_due_until_its_reply(rt: HostRuntime) -> Result<(), Wrong> {
     ends_behind_recall(rt.alloc(), &TWO_LEAN, &[MIGRATORY], REPLIES, REPLIED)
+}
+
+// Remote 0 takes the request, and owes its reply where the schedule ends.
+const OWES: &[u8] = b"\
+down 0
+remote 0 answer
+";
+
+const OWED: &[u8] = b"\
+12 down 0: stutter
+  remote 0 V d=0 slot[inv] up[] down[]
+13 remote 0 answer: down 0 0 2 inv
+  remote 0 D! d=0 slot[] up[] down[]
+end
+  home I1/0>0 o=#0 j=#1 d=0 held[] owed[1:gr]
+  remote 0 D! d=0 slot[] up[] down[]
+  remote 1 R* d=0 slot[] up[] down[]
+abstract
+  home I2 o=#0 j=#1 d=0
+  remote 0 D d=0
+  remote 1 W d=0
+";
+
+#[test]
+fn a_remote_that_is_due_has_taken_the_request(rt: HostRuntime) -> Result<(), Wrong> {
+    ends_behind_recall(rt.alloc(), &TWO_LEAN, &[MIGRATORY], OWES, OWED)
 }
 
 // A third remote asks for the line while the home waits.

@@ -1,7 +1,6 @@
 //! Requests that a home with few slots holds, nacks, drops and displaces.
 
-use crate::stepped::steps_end;
-use memory_runs::{HOLD, INVALIDATE, Wrong};
+use memory_runs::{HOLD, INVALIDATE, Wrong, schedule_ends};
 use rvc_top::Status;
 
 // Three remotes get a shared line.
@@ -137,7 +136,7 @@ abstract
 
 #[test]
 fn a_request_that_the_home_can_use_gets_the_progress_slot(rt: HostRuntime) -> Result<(), Wrong> {
-    steps_end(
+    schedule_ends(
         rt.alloc(),
         &["run", "p", "4", "2", "lean"],
         &[INVALIDATE],
@@ -196,7 +195,7 @@ abstract
 #[test]
 fn the_home_sends_nothing_to_a_remote_whose_request_it_holds(rt: HostRuntime) -> Result<(), Wrong> {
     for slots in ["3", "2"] {
-        steps_end(
+        schedule_ends(
             rt.alloc(),
             &["run", "p", "2", slots, "plain"],
             &[HOLD],
@@ -303,7 +302,7 @@ abstract
 
 #[test]
 fn a_request_that_a_full_home_can_use_displaces_the_last(rt: HostRuntime) -> Result<(), Wrong> {
-    steps_end(
+    schedule_ends(
         rt.alloc(),
         &["run", "p", "3", "2", "plain"],
         &[TIDE],

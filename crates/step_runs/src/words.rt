@@ -1,7 +1,6 @@
 //! How many remotes and slots there may be, and in which mode.
 
-use crate::stepped::stepped;
-use memory_runs::{MIGRATORY, Wrong, ends, over_nothing};
+use memory_runs::{MIGRATORY, Wrong, ends, over_nothing, over_schedule};
 use rv_base::NoMemory;
 use rvc_top::Status;
 use std::alloc::Global;
@@ -73,7 +72,7 @@ fn most_end(alloc: Global, text: &[u8]) -> Result<(), Wrong> {
     let words = ["run", "p", "64", "64", "lean"];
     ends(
         alloc,
-        &stepped(&words, &[MIGRATORY], &[], Status::Done, text),
+        &over_schedule(&words, &[MIGRATORY], &[], Status::Done, text),
     )
 }
 
