@@ -17,6 +17,7 @@ from faults import first_fault, listed
 TOP = os.path.dirname(os.path.dirname(os.path.dirname(os.path.realpath(__file__))))
 SECONDS = 20
 FILE_LIMIT = 65536
+STORE_LIMIT = 262144
 LINE_LIMIT = 256
 TAIL = 1 << 20
 
@@ -60,11 +61,35 @@ STEPS = """  home tau G       a local step of the home, by guard G of its state
   down J           the first packet on the down link of remote J arrives there
 A line may also be blank; `//` begins a comment. Guards and remotes are counted from 0."""
 
+NET_LINES = """  net J up resend P    the packet at place P of the window of this wire is sent once more
+  net J up lose P      the frame at place P of its flight is lost
+  net J up copy P      this frame is under way once more
+  net J up pass P      this frame arrives, and is received where it is the next one
+  net J down resend P  the same of the wire down to remote J
+  net J down lose P
+  net J down copy P
+  net J down pass P"""
+
+LINE_STEPS = """  at A home tau G       the step `home tau G` of cache line A, as `run` has it
+  at A home take J      and so on, with each step that delivers nothing
+  at A home send G J
+  at A home drop J
+  at A remote J tau G
+  at A remote J send
+  at A remote J answer
+  at A remote J reply
+  up J                  the first packet on the shared up link of remote J arrives
+  down J                the first packet on the shared down link of remote J arrives
+A line may also be blank; `//` begins a comment. Lines, guards and remotes are counted from 0."""
+
 # Of each command that reads a schedule: what its lines are called, their forms, and the section of
 # FORMATS.md that has them.
 SCHEDULES = {
     "rv": ("event", EVENTS, "Schedules of events"),
     "run": ("step", STEPS, "Schedules of steps"),
+    "boot": ("step", STEPS, "Schedules of steps"),
+    "lossy": ("step", NET_LINES + "\n" + STEPS, "Moves of a network"),
+    "lines": ("step", LINE_STEPS, "Steps of many lines"),
 }
 
 
@@ -94,16 +119,20 @@ class Again:
             if not stat.S_ISREG(os.stat(path).st_mode):
                 return None
             with open(path, "rb") as file:
-                return file.read(FILE_LIMIT + 1).decode("latin-1")
+                return file.read(file_limit(self.words) + 1).decode("latin-1")
         except (OSError, ValueError):
             return None
 
     def verdict(self):
-        """The answer to the file: the status and the text of `check`. The file is opened here, as
-        its path may speak of a stream of this process, as /dev/stdin does."""
+        """The answer to the file: the status and the text of `check`, or of the command where it
+        refuses more. The file is opened here, as its path may speak of a stream of this process,
+        as /dev/stdin does."""
+        words = ["check", "/dev/stdin"]
+        if self.words[0] in ("store", "boot"):
+            words = [self.words[0], "/dev/stdin"] + self.words[2:]
         try:
             with open(self.words[1], "rb") as file:
-                return self.run(["check", "/dev/stdin"], file)
+                return self.run(words, file)
         except OSError:
             return None, b""
 
@@ -156,6 +185,11 @@ class Answered:
         return None, b""
 
 
+def file_limit(words):
+    """How many bytes the file of these words may have."""
+    return STORE_LIMIT if words[0] == "boot" else FILE_LIMIT
+
+
 def explanation(words, status, again):
     """Lines that tell a person what this status means, for these words."""
     if status == 1:
@@ -169,7 +203,9 @@ def explanation(words, status, again):
         return []
     reads = words[0] in READ_STANDARD_INPUT
     if status == 2:
-        return refused_file(path, again)
+        return refused_file(words[0], path, again)
+    if status == 3 and words[0] == "audit":
+        return refused_trace(again)
     if status == 3 and reads:
         return refused_schedule(words[0], again)
     if status == 4:
@@ -195,8 +231,10 @@ def usage(words):
     return ["The words have no form. " + fault, "`./rvc --help` has each form."]
 
 
-def refused_file(path, again):
+def refused_file(command, path, again):
     """Status 2."""
+    if command == "boot":
+        return refused_store(path, again)
     text = again.file(path)
     status, answer = again.verdict() if text is not None else (None, b"")
     if status != 2:
@@ -206,10 +244,38 @@ def refused_file(path, again):
     if answer == b"error file too long\n":
         return ["%s: the file is too long: it may have at most 65,536 bytes." % shown(path),
                 "More: " + page("FORMATS.md", "Limits")]
+    if answer == b"error file text too long\n":
+        return ["%s: the laid-out text of the protocol, as `print` writes it, is too long: it may "
+                "have at most 65,536 bytes." % shown(path),
+                "More: " + page("FORMATS.md", "The image of `store`")]
     found = re.fullmatch(rb"error file line (\d+) code (\d+)\n", answer)
     if not found or int(found.group(2)) not in CODES:
         return ["%s is refused (status 2); standard output says why." % shown(path)]
     return at_line(path, text, int(found.group(1)), int(found.group(2)))
+
+
+# Of each text for a file that is no control store: what it means.
+STORES = {
+    b"error file too long\n": "it has more than 262,144 bytes",
+    b"error image head\n": "it doesn't begin as one does, or isn't as long as its head says",
+    b"error image text\n": "its text isn't the laid-out text of a well-formed protocol",
+    b"error image rows\n": "its head tells other numbers of rows than the table of its protocol "
+                          "has in its mode",
+}
+
+
+def refused_store(path, again):
+    """Status 2 of `boot`."""
+    status, answer = again.verdict()
+    more = ["More: " + page("FORMATS.md", "The image of `store`")]
+    row = re.fullmatch(rb"error image row (\d+)\n", answer)
+    if status == 2 and row:
+        return ["%s is no control store (status 2): row %d of it, counted from 0 with the home's "
+                "first, isn't that of the table of its protocol in its mode."
+                % (shown(path), int(row.group(1)))] + more
+    if status == 2 and answer in STORES:
+        return ["%s is no control store (status 2): %s." % (shown(path), STORES[answer])] + more
+    return ["%s is no control store (status 2); standard output says why." % shown(path)] + more
 
 
 def at_line(path, text, line, code):
@@ -329,6 +395,22 @@ def refused_schedule(command, again):
     return told + [line_fault(command, line), forms] + more
 
 
+def refused_trace(again):
+    """Status 3 of `audit`."""
+    more = ["More: " + page("FORMATS.md", "The text of `audit`")]
+    status, answer = again.replay()
+    found = re.fullmatch(rb"error trace line (\d+)\n", answer) if status == 3 else None
+    if not found:
+        return ["A line of the trace is refused (status 3); standard output has its number."] + more
+    number = int(found.group(1))
+    told = ["Line %d of the trace is refused (status 3): it isn't what `run` can write there."
+            % number]
+    line = schedule_line(again.schedule(), number)
+    if line:
+        told.append("%6d | %s" % (number, seen(line[:90].decode("latin-1")).rstrip()))
+    return told + more
+
+
 def schedule_line(descriptor, number):
     """A line of a schedule without its LF, up to one byte past the limit, or None."""
     if descriptor is None:
@@ -363,17 +445,18 @@ def words_fault(schedule, words):
     if not likely:
         return "`%s` begins no %s. " % (seen(words[0]), kind)
     # A word that tells one form from another: `home`, or what is done.
-    for place in (1, 2):
+    for place in (1, 2, 3, 4):
         named = [form[place] for form in likely if len(form) > place and form[place].islower()]
         if not named or len(words) <= place:
             continue
         exact = [form for form in likely if len(form) > place and form[place] == words[place]]
         if exact:
             likely = exact
-            break
+            continue
         if len(named) == len(likely):
+            known = list(dict.fromkeys(named))
             return "Behind `%s` stands %s or %s, and here is `%s`. " % (
-                " ".join(likely[0][:place]), ", ".join(named[:-1]), named[-1], seen(words[place]))
+                " ".join(likely[0][:place]), ", ".join(known[:-1]), known[-1], seen(words[place]))
         likely = [form for form in likely if not form[place].islower()]
     form = likely[0]
     if len(words) != len(form):
@@ -462,7 +545,11 @@ def unwritten():
 def broken_claim(command, path, again):
     """Status 7."""
     more = ["More: " + page("LANGUAGE.md", "Claims")]
-    text = again.file(path)
+    text, where = again.file(path), "%s:%d"
+    if text is not None and command == "boot":
+        # The head of a control store has 40 bytes, and the length of its text at byte 16.
+        length = int.from_bytes(text[16:24].encode("latin-1"), "big")
+        text, where = text[40 : 40 + length], "%s, line %d of its text"
     claims, file = [], None
     if text is not None:
         try:
@@ -479,7 +566,7 @@ def broken_claim(command, path, again):
         found = re.search(rb"(?:^|\n)claim (\d+) broken\nend\n([^\0]*)\Z", answer)
     if found and int(found.group(1)) < len(claims):
         number = int(found.group(1))
-        told = ["%s:%d: claim %d is broken (status 7)%s" % (
+        told = [(where + ": claim %d is broken (status 7)%s") % (
             shown(path), claims[number].line, number, moment(command, answer[: found.start()]))]
         told += source_line(text, claims[number].line, claims[number].first.begin)
         told.append("It says that " + in_words(claims[number]) + ".")

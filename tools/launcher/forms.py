@@ -9,11 +9,16 @@ FORMS = {
     "rv": ["PATH", "N"],
     "run": ["PATH", "N", "K", "MODE"],
     "drive": ["PATH", "N", "K", "MODE", "COUNT", "SEED"],
+    "lossy": ["PATH", "N", "K", "MODE"],
+    "lines": ["PATH", "N", "K", "MODE", "C"],
+    "audit": ["PATH", "N"],
+    "store": ["PATH", "MODE"],
+    "boot": ["PATH", "N", "K"],
     "table": ["PATH", "MODE"],
     "json": ["PATH", "MODE"],
     "example": ["NAME"],
 }
-READ_STANDARD_INPUT = ["rv", "run"]
+READ_STANDARD_INPUT = ["rv", "run", "lossy", "lines", "audit", "boot"]
 MODES = ["plain", "lean"]
 EXAMPLES = ["migratory", "invalidate"]
 PLACES = ["first", "second", "third", "fourth", "fifth", "sixth", "seventh"]
@@ -79,6 +84,7 @@ MEANT = {
     "PATH": lambda word: True,
     "N": lambda word: is_number(word, 64) and int(word) >= 1,
     "K": lambda word: is_number(word, 64) and int(word) >= 2,
+    "C": lambda word: is_number(word, 16) and int(word) >= 1,
     "COUNT": lambda word: is_number(word, MOST_TURNS),
     "SEED": lambda word: is_number(word, MOST_SEED),
     "MODE": lambda word: word in MODES,
@@ -89,10 +95,11 @@ MEANT = {
 def meaning(name):
     """What a word of a form may be."""
     return {
-        "PATH": "PATH is the path of a protocol file.",
+        "PATH": "PATH is the path of a protocol file, and with boot that of a control store.",
         "N": "N is from 1 to 64, in decimal without leading zeros: the number of remotes.",
         "K": "K is from 2 to 64, in decimal without leading zeros: the number of the home's slots.",
         "MODE": "MODE is plain or lean.",
+        "C": "C is from 1 to 16, in decimal without leading zeros: the number of cache lines.",
         "COUNT": "COUNT is from 0 to %d, in decimal without leading zeros: the most steps that are "
         "taken." % MOST_TURNS,
         "SEED": "SEED is from 0 to %d, in decimal without leading zeros: the number that chooses "

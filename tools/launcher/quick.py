@@ -10,7 +10,7 @@ import subprocess
 import sys
 import tempfile
 
-from explain import FILE_LIMIT, TAIL, Answered, explanation
+from explain import TAIL, Answered, explanation, file_limit
 from forms import READ_STANDARD_INPUT, is_text, path_in
 from run import tell
 
@@ -26,12 +26,13 @@ class NoAnswer(Exception):
     """Why there is no answer."""
 
 
-def copied(path, folder):
-    """Copies the protocol file as far as the program reads it. The name under which it is handed
-    over, and where the copy is; where it can't be read, a name that stands for no file."""
+def copied(path, limit, folder):
+    """Copies the protocol file as far as the program reads it, to one byte past this limit. The
+    name under which it is handed over, and where the copy is; where it can't be read, a name that
+    stands for no file."""
     try:
         with open(path, "rb") as file:
-            text = file.read(FILE_LIMIT + 1)
+            text = file.read(limit + 1)
     except (OSError, ValueError):
         return "missing.rv", None
     copy = os.path.join(folder, "protocol")
@@ -83,7 +84,7 @@ def answer(crate, words):
         handed = list(words) if all(map(is_text, words)) else []
         path, data, copy, given = path_in(words), [], None, None
         if path is not None:
-            handed[1], copy = copied(path, folder)
+            handed[1], copy = copied(path, file_limit(words), folder)
             data = ["--data", "%s=%s" % (PROTOCOL, copy)] if copy else []
             if words[0] in READ_STANDARD_INPUT:
                 given = copied_input(folder)
