@@ -30,22 +30,12 @@ use Rattle.async_shape.proofs.Phases.{slot-phase}
 use Rattle.abstraction_map.specs.Abstraction.{abstraction}
 use Rattle.abstraction_map.proofs.ByCase.{part-due, home-in_phase, waits-for, remote_stands}
 use Rattle.abstraction_map.proofs.HomeTakeMeans.{RemoteGives}
-use Rattle.abstraction_map.proofs.HomeSendMeans.{HomeGives}
 use Rattle.abstraction_map.proofs.Frames.{parts-at}
 
 -- the message that a process gives by this guard, and its value; none where it gives none
 abbrev pub given_by_part : List MessageInfo → Body → Part → ℕ → Option (ℕ × Value)
 given_by_part messages body p g =
     option_and_then (λ rule. given messages p.vars rule.kind) (guard_at body p.state g)
-
--- what the home gives by a guard
-pub HomeGives-is : (protocol : NumberedProtocol) (config : RvConfig) (h : ℕ) (message : ℕ × Value)
-    → HomeGives protocol config h message
-    → given_by_part protocol.messages protocol.home config.home h ≡ Some message
-HomeGives-is protocol config h message is =
-    ap (option_and_then (λ (rule : Rule). given protocol.messages config.home.vars rule.kind))
-    is.guard
-    ∙ is.gives
 
 -- what remote j gives by a guard
 pub RemoteGives-is : (protocol : NumberedProtocol) (config : RvConfig) (j r : ℕ)

@@ -2,23 +2,15 @@
 -- request is a stutter.
 use Rattle.std.proofs.Common.{◌≡◌, inl, inr, ℕ, ◌<◌, false, length, Option, Some, None}
 use Rattle.std.proofs.Common.{option_map, List, [], ◌∷◌, ◌++◌, is_some, refl, sym, ap, subst, ◌∙◌}
-use Rattle.std.proofs.lemmas.Option.{same_Some}
-use Rattle.proto_model.specs.Numbered.{NumberedProtocol}
 use Rattle.proto_model.specs.Proper.{IsProper}
-use Rattle.proto_model.specs.Guards.{part, guard_at, after_guard}
-use Rattle.proto_model.specs.RendezvousNext.{given}
-use Rattle.proto_model.specs.declared.numbered.Value.{Value}
+use Rattle.proto_model.specs.Guards.{part, after_guard}
 use Rattle.proto_model.specs.declared.numbered.Value.TheVariants as value
-use Rattle.proto_model.specs.declared.numbered.Rule.{Rule}
-use Rattle.proto_model.specs.declared.rendezvous.Part.{Part}
-use Rattle.proto_model.specs.declared.rendezvous.RvConfig.{RvConfig}
 use Rattle.controller_table.specs.Rows.{guard_id}
-use Rattle.ordered_links.specs.Link.{Down}
 use Rattle.ordered_links.specs.declared.packet.Packet.{Packet}
 use Rattle.ordered_links.specs.declared.packet.Packet.TheVariants as packet
 use Rattle.async_shape.specs.Setting.{Setting}
-use Rattle.async_shape.specs.Config.{Config, count_of, owed_to}
-use Rattle.async_shape.specs.Outcome.{HomeOutcome, put_on, home_at}
+use Rattle.async_shape.specs.Config.{Config, count_of}
+use Rattle.async_shape.specs.Outcome.{HomeOutcome, home_at}
 use Rattle.async_shape.specs.HomeSteps.{paid, requested}
 use Rattle.async_shape.specs.Next.{StepOutcome, home_moved, outcome}
 use Rattle.async_shape.specs.View.{View, awaited_at, held_request, view_at}
@@ -48,13 +40,6 @@ use Rattle.abstraction_map.proofs.Behind.{LeadsTo, IsBehind}
 use Rattle.abstraction_map.proofs.WaitingRemote.{WaitsToGive, waits-to_give}
 use Rattle.abstraction_map.proofs.HomeStepAt.{after, fate_left, both-moved, left-looks, others-look}
 
--- The home gives this message by this guard.
-pub record HomeGives (protocol : NumberedProtocol) (config : RvConfig) (h : ℕ)
-    (message : ℕ × Value) : Type 0 where
-  pub rule : Rule
-  pub guard : guard_at protocol.home config.home.state h ≡ Some rule
-  pub gives : given protocol.messages config.home.vars rule.kind ≡ Some message
-
 -- Where nothing is under way that concerns the home's request, it was not granted.
 free-fate : (setting : Setting) (v : View) → FreePhase setting v → awaited_fate v ≡ NotGranted
 free-fate setting v (FreeRests is) = awaited_fate-is setting v Resting is
@@ -72,22 +57,6 @@ module _ (setting : Setting) (proper : IsProper setting.protocol) (c : Config)
   -- j has a place among the debts
   owed_there : j < length c.home.owed
   owed_there = subst (λ (n : ℕ). j < n) (sym (IsShaped-whole setting c shaped).debts) within
-
-  -- The home gives what it sends by the guard.
-  sent-gives : HomeGives setting.protocol (abstraction setting.protocol c) g sends.message
-  sent-gives =
-      let stands = sym (home-idle setting.protocol c sends.state sends.idle) in
-      record {
-        rule = sends.rule;
-        guard =
-            subst (λ (p : Part). guard_at setting.protocol.home p.state g ≡ Some sends.rule) stands
-            sends.there;
-        gives =
-            subst
-            (λ (p : Part).
-            given setting.protocol.messages p.vars sends.rule.kind ≡ Some sends.message) stands
-            sends.gives;
-      }
 
   -- ---- the reply that is owed
 
@@ -207,21 +176,6 @@ module _ (setting : Setting) (proper : IsProper setting.protocol) (c : Config)
   HomeSend-behind : IsBehind setting c (step.HomeSend g j) (home_moved c None o)
   HomeSend-behind = elim sends.how [ inl pays ↦ pays-behind pays | inr asks ↦ asks-behind asks ]
 
-  -- where the home owes j a message, it sends that one
-  sent-paid : (p : ℕ) → owed_to c.home j ≡ Some p
-      → (v : Value) × (o.put ≡ put_on (Down j) (packet.Reply p v)) × (sends.message ≡ (p, v))
-  sent-paid p owed = elim sends.how [
-    | inl pays ↦ (
-      sends.message.1,
-      ap (λ (so : HomeOutcome). so.put) pays.outcome
-          ∙ ap (λ (m : ℕ). put_on (Down j) (packet.Reply m sends.message.1))
-          (same_Some sends.message.0 p (sym pays.owed ∙ owed)),
-      ap (λ (m : ℕ). (m, sends.message.1))
-          (same_Some sends.message.0 p (sym pays.owed ∙ owed)),
-    )
-    | inr asks ↦ absurd (cc)
-  ]
-
 module _ (setting : Setting) (proper : IsProper setting.protocol) (c : Config)
     (shaped : IsShaped setting c) (g j : ℕ) where
   -- HomeSend(g, j) means what is told of it.
@@ -231,20 +185,3 @@ module _ (setting : Setting) (proper : IsProper setting.protocol) (c : Config)
       let at = HomeSend-outcome setting c g j o did in
       subst (IsBehind setting c (step.HomeSend g j)) (sym at.1.outcome)
       (HomeSend-behind setting proper c shaped g j at.0 at.1.left at.1.is)
-
-  -- Where the home owes j a message, that message is put, with the value with which the home gives
-  -- it by guard g.
-  pub pay-gives : (p : ℕ) (o : StepOutcome) → owed_to c.home j ≡ Some p
-      → outcome setting c (step.HomeSend g j) ≡ Some o
-      → (v : Value) × (o.put ≡ put_on (Down j) (packet.Reply p v))
-      × HomeGives setting.protocol (abstraction setting.protocol c) g (p, v)
-  pay-gives p o owed did =
-      let at = HomeSend-outcome setting c g j o did in
-      let left = at.1.left in
-      let sends = at.1.is in
-      let paid = sent-paid setting proper c shaped g j at.0 left sends p owed in (
-        paid.0,
-        ap (λ (so : StepOutcome). so.put) at.1.outcome ∙ paid.1,
-        subst (HomeGives setting.protocol (abstraction setting.protocol c) g) paid.2
-            (sent-gives setting proper c shaped g j at.0 left sends),
-      )

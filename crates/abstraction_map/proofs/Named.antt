@@ -1,6 +1,6 @@
 -- What the shape says of a remote that is named: the one on which the home waits is there, and few
 -- packets are on the links of each.
-use Rattle.std.proofs.Common.{◌≡◌, ℕ, ◌<◌, ◌≤◌, List, length, subst, sym, arith}
+use Rattle.std.proofs.Common.{◌≡◌, ℕ, ◌<◌, ◌≤◌, List, length, subst, arith}
 use Rattle.proto_model.specs.Numbered.{NumberedProtocol}
 use Rattle.ordered_links.specs.Link.{Up, Down}
 use Rattle.ordered_links.specs.Lists.{packets_on}

@@ -1,5 +1,4 @@
 -- A shaped configuration is refined, and so is each configuration of a run from the start.
--- Each configuration of a run from the start is refined, where each step means what is told of it.
 use Rattle.std.proofs.Common.{◌≡◌, ℕ, ◌≤◌, List, Some, slice_get, ap, ◌∙◌}
 use Rattle.std.specs.List.{AllByRecursion}
 use Rattle.std.proofs.lemmas.Option.{slice_get_within, get_or_from_slice_get}
@@ -7,33 +6,37 @@ use Rattle.rv_base.proofs.Lists.{AllByRecursion-weaker}
 use Rattle.proto_model.specs.Proper.{IsProper}
 use Rattle.proto_model.specs.Guards.{part}
 use Rattle.proto_model.specs.declared.rendezvous.Part.{Part}
-use Rattle.controller_table.specs.declared.rows.Place.TheVariants.{Comm}
+use Rattle.controller_table.specs.declared.rows.Place.{Place}
+use Rattle.controller_table.specs.declared.rows.Place.TheVariants.{Comm, Due}
 use Rattle.async_shape.specs.Setting.{Setting}
 use Rattle.async_shape.specs.Config.{Config, count_of, start}
 use Rattle.async_shape.specs.Run.{run}
-use Rattle.async_shape.specs.View.{nobody, view_at}
+use Rattle.async_shape.specs.View.{View, nobody, view_at}
 use Rattle.async_shape.specs.Shape.{IsShaped}
 use Rattle.async_shape.specs.declared.config.RemoteState.{RemoteState}
 use Rattle.async_shape.specs.declared.step.Step.{Step}
 use Rattle.async_shape.proofs.Start.{IsShaped-start}
 use Rattle.async_shape.proofs.EveryStepKeep.{IsShaped-run}
-use Rattle.abstraction_map.specs.Abstraction.{abstraction}
+use Rattle.abstraction_map.specs.Abstraction.{part_in_view, abstraction}
 use Rattle.abstraction_map.specs.Meant.{IsRefined}
-use Rattle.abstraction_map.proofs.ByCase.{part-idle, home-idle, remote_stands}
+use Rattle.abstraction_map.proofs.ByCase.{part-idle, part-due, home-idle}
+use Rattle.abstraction_map.proofs.ByCase.{remote_stands}
 use Rattle.abstraction_map.proofs.Frames.{parts-at}
 use Rattle.abstraction_map.proofs.AbstractionTyped.{shaped-config}
 use Rattle.abstraction_map.proofs.EveryStepMeans.{every_step-means}
 
 module _ (setting : Setting) (c : Config) (shaped : IsShaped setting c) where
-  -- An idle remote stands in the abstraction as it is.
-  idle-remote : (j state : ℕ) (remote : RemoteState) → slice_get c.remotes j ≡ Some remote
-      → remote.place ≡ Comm state
+  -- A remote that waits for nothing, by its place, stands in the abstraction with its variables.
+  remote-stands : (j state : ℕ) (place : Place) (remote : RemoteState)
+      → slice_get c.remotes j ≡ Some remote → remote.place ≡ place
+      → ((v : View) → v.remote.place ≡ place
+      → part_in_view setting.protocol.remote v ≡ part state v.remote.vars)
       → slice_get (abstraction setting.protocol c).remotes j ≡ Some (part state remote.vars)
-  idle-remote j state remote there idle =
+  remote-stands j state place remote there at by_place =
       let v = view_at setting.protocol c j in
       let is : v.remote ≡ remote = get_or_from_slice_get c.remotes j remote nobody there in
       let stands : remote_stands setting.protocol c j ≡ part state remote.vars =
-      part-idle setting.protocol.remote v state (ap (λ (r : RemoteState). r.place) is ∙ idle)
+      by_place v (ap (λ (r : RemoteState). r.place) is ∙ at)
       ∙ ap (λ (r : RemoteState). part state r.vars) is in
       parts-at (count_of c) (remote_stands setting.protocol c) j
       (slice_get_within c.remotes j remote there)
@@ -44,7 +47,12 @@ module _ (setting : Setting) (c : Config) (shaped : IsShaped setting c) where
   shaped-refined proper = record {
     config = shaped-config setting proper c shaped;
     home = λ state idle. home-idle setting.protocol c state idle;
-    remotes = λ j state remote there idle. idle-remote j state remote there idle;
+    remotes = λ j state remote there idle.
+        remote-stands j state (Comm state) remote there idle
+        (λ v. part-idle setting.protocol.remote v state);
+    due = λ j g remote there is_due.
+        remote-stands j g.state (Due g) remote there is_due
+        (λ v. part-due setting.protocol.remote v g);
     steps = λ s. every_step-means setting proper c shaped s;
   }
 

@@ -2,7 +2,8 @@
 use Rattle.std.specs.Prelude.{◌≡◌, ℕ, Option, Some, None, slice_get}
 use Rattle.proto_model.specs.Guards.{part}
 use Rattle.proto_model.specs.Rendezvous.{RvStep, IsConfigOf}
-use Rattle.controller_table.specs.declared.rows.Place.TheVariants.{Comm}
+use Rattle.controller_table.specs.declared.rows.GuardId.{GuardId}
+use Rattle.controller_table.specs.declared.rows.Place.TheVariants.{Comm, Due}
 use Rattle.async_shape.specs.Setting.{Setting}
 use Rattle.async_shape.specs.Config.{Config}
 use Rattle.async_shape.specs.Next.{next}
@@ -32,7 +33,8 @@ module _ (setting : Setting) (c : Config) where
   IsMeant s = Means (told setting c s) (next setting c s)
 
   -- What the configuration stands for is a configuration of the rendezvous meaning; a process that
-  -- waits for nothing stands there as it is; and each step means what is told of it.
+  -- waits for nothing stands there as it is, a remote that is due to reply in its active state; and
+  -- each step means what is told of it.
   pub record IsRefined : Type 0 where
     pub config : IsConfigOf setting.protocol (abstraction setting.protocol c)
     pub home :
@@ -42,4 +44,8 @@ module _ (setting : Setting) (c : Config) where
         (j state : ℕ) (remote : RemoteState) → slice_get c.remotes j ≡ Some remote
         → remote.place ≡ Comm state
         → slice_get (abstraction setting.protocol c).remotes j ≡ Some (part state remote.vars)
+    pub due :
+        (j : ℕ) (g : GuardId) (remote : RemoteState) → slice_get c.remotes j ≡ Some remote
+        → remote.place ≡ Due g
+        → slice_get (abstraction setting.protocol c).remotes j ≡ Some (part g.state remote.vars)
     pub steps : (s : Step) → IsMeant s

@@ -62,7 +62,7 @@ ghost use Rattle.abstraction_map.specs.WorkedDisplacementMeans.{displacement_8_m
 ghost use Rattle.abstraction_map.specs.WorkedDisplacementMeans.{displacement_10_means};
 ghost use Rattle.abstraction_map.specs.WorkedDisplacementMeans.{displacement_11_means};
 
-/// What the moments before and after an event mean.
+/// Two requests cross: what the moments before and after an event mean.
 pub fn crossing_means()
     ensures after_0 { abstraction migratory crossing_0 ≡ crossing_0_means }
     ensures after_1 { abstraction migratory crossing_1 ≡ crossing_1_means }
@@ -79,7 +79,7 @@ pub fn crossing_means()
     ensures after_16 { abstraction migratory crossing_16 ≡ crossing_16_means }
 {}
 
-/// What the moments before and after an event mean.
+/// Two requests are acked, in mode plain: what the moments before and after an event mean.
 pub fn plain_means()
     ensures after_0 { abstraction migratory plain_0 ≡ plain_0_means }
     ensures after_1 { abstraction migratory plain_1 ≡ plain_1_means }
@@ -89,19 +89,19 @@ pub fn plain_means()
     ensures after_8 { abstraction migratory plain_8 ≡ plain_8_means }
 {}
 
-/// What the moments before and after an event mean.
+/// A remote turns active with a full slot: what the moments before and after an event mean.
 pub fn full_slot_means()
     ensures after_12 { abstraction migratory full_slot_12 ≡ full_slot_12_means }
     ensures after_13 { abstraction migratory full_slot_13 ≡ full_slot_13_means }
 {}
 
-/// What the moments before and after an event mean.
+/// A message that goes down has a reply: what the moments before and after an event mean.
 pub fn down_pair_means()
     ensures after_13 { abstraction migratory down_pair_13 ≡ down_pair_13_means }
     ensures after_14 { abstraction migratory down_pair_14 ≡ down_pair_14_means }
 {}
 
-/// What the moments before and after an event mean.
+/// Three packets are on one down link: what the moments before and after an event mean.
 pub fn three_items_means()
     ensures after_1 { abstraction three three_items_1 ≡ three_items_1_means }
     ensures after_2 { abstraction three three_items_2 ≡ three_items_2_means }
@@ -111,13 +111,13 @@ pub fn three_items_means()
     ensures after_10 { abstraction three three_items_10 ≡ three_items_10_means }
 {}
 
-/// What the moments before and after an event mean.
+/// The progress slot is kept: what the moments before and after an event mean.
 pub fn progress_kept_means()
     ensures after_11 { abstraction migratory progress_kept_11 ≡ progress_kept_11_means }
     ensures after_12 { abstraction migratory progress_kept_12 ≡ progress_kept_12_means }
 {}
 
-/// What the moments before and after an event mean.
+/// The progress slot is used: what the moments before and after an event mean.
 pub fn progress_used_means()
     ensures after_18 { abstraction invalidate progress_used_18 ≡ progress_used_18_means }
     ensures after_19 { abstraction invalidate progress_used_19 ≡ progress_used_19_means }
@@ -129,7 +129,7 @@ pub fn progress_used_means()
     ensures after_27 { abstraction invalidate progress_used_27 ≡ progress_used_27_means }
 {}
 
-/// What the moments before and after an event mean.
+/// A held request is displaced: what the moments before and after an event mean.
 pub fn displacement_means()
     ensures after_0 { abstraction tide displacement_0 ≡ displacement_0_means }
     ensures after_1 { abstraction tide displacement_1 ≡ displacement_1_means }
