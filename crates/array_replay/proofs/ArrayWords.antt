@@ -11,8 +11,9 @@ use Rattle.async_shape.specs.Site.{site, arrival_link}
 use Rattle.async_shape.specs.declared.step.Step.{Step}
 use Rattle.async_shape.specs.declared.step.Step.TheVariants as step
 use Rattle.async_machine.specs.StepText.{step_words}
-use Rattle.schedule_replay.specs.EventLines.{number}
-use Rattle.schedule_replay.proofs.EventWords.{number-is, number-decimal, same-bytes}
+use Rattle.proto_model.specs.ScheduleNumbers.{number}
+use Rattle.proto_model.proofs.ScheduleNumbers.{number-is, number-decimal}
+use Rattle.rv_base.proofs.SameWords.{same-bytes}
 use Rattle.run_replay.specs.StepLines.{HasNumbers, step_of}
 use Rattle.run_replay.proofs.StepWords.{says-step, step_of-words}
 use Rattle.line_array.specs.declared.line_step.LineStep.{LineStep}

@@ -9,7 +9,7 @@ use Rattle.ordered_links.specs.Link.{Link, Up, Down}
 use Rattle.async_shape.specs.Site.{site, arrival_link}
 use Rattle.async_shape.specs.declared.step.Step.{Step}
 use Rattle.async_machine.specs.StepText.{step_words}
-use Rattle.schedule_replay.specs.EventLines.{number}
+use Rattle.proto_model.specs.ScheduleNumbers.{number}
 use Rattle.schedule_replay.specs.declared.player.Meaning.{Meaning}
 use Rattle.schedule_replay.specs.declared.player.Meaning.TheVariants as line
 use Rattle.run_replay.specs.StepLines.{HasNumbers, step_of}

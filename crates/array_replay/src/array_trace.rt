@@ -20,7 +20,7 @@ use abstraction_map::Told;
 use async_machine::{Machine, Step, step_text};
 use line_array::{Array, LineStep};
 use ordered_links::Links;
-use proto_model::{Appending, append, append_number};
+use proto_model::{Appending, append, append_argument, append_number};
 use run_replay::{end_lines, told_line};
 use rv_base::NoMemory;
 use std::alloc::Global;
@@ -43,8 +43,7 @@ fn put_with(words: &[u8], number: u32, out: &mut Vec<u8>, so_far: Appending) -> 
     ensures { Continues (words.now ++ argument number) so_far out.old.items result out.new.items }
 {
     let so_far = append(out, so_far, words);
-    let so_far = append(out, so_far, b" ");
-    append_number(out, so_far, number)
+    append_argument(out, so_far, number)
 }
 
 // Appends the text of a step.
@@ -78,7 +77,7 @@ fn put_head(line: u8, out: &mut Vec<u8>, so_far: Appending) -> Appending
     ensures { Continues (texts.line_head line) so_far out.old.items result out.new.items }
 {
     let so_far = append(out, so_far, b"line ");
-    append_number(out, so_far, u32::from(line))
+    append_number(out, so_far, u64::from(line))
 }
 
 // Appends the first line of the block of a step of one pair of controllers, unless memory ran out

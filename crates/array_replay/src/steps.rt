@@ -8,9 +8,10 @@ ghost use Rattle.array_replay.specs.ArrayLines.{Says, array_line};
 
 use async_machine::Step;
 use line_array::LineStep;
+use proto_model::schedule_number;
 use run_replay::read_line;
 use rv_base::next_word;
-use schedule_replay::{Meaning, schedule_number};
+use schedule_replay::Meaning;
 
 // The step of this cache line, unless a packet arrives in it.
 fn own_step(line: u32, step: Step) -> Option<LineStep>

@@ -3,7 +3,7 @@
 use memory_runs::{Wrong, ends, over_nothing};
 use rvc_top::Status;
 
-// The words of `lines` with one remote, two slots and two cache lines.
+/// The words of `lines` with one remote, two slots and two cache lines.
 pub const TWO_LINES: [&str; 6] = ["lines", "p", "1", "2", "lean", "2"];
 
 const NO_FORMS: [&[&str]; 15] = [

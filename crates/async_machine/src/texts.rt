@@ -8,17 +8,9 @@ ghost use Rattle.proto_model.specs.Texts.{argument};
 ghost use Rattle.async_machine.specs.StepText as texts;
 
 use async_shape::Step;
-use proto_model::{Appending, append, append_number};
+use proto_model::{Appending, append, append_argument};
 use rv_base::NoMemory;
 use std::alloc::Global;
-
-// A space, and a number.
-fn append_argument(out: &mut Vec<u8>, so_far: Appending, number: u32) -> Appending
-    ensures { Continues (argument number) so_far out.old.items result out.new.items }
-{
-    let so_far = append(out, so_far, b" ");
-    append_number(out, so_far, number)
-}
 
 // The words, and behind them a number.
 fn append_with(out: &mut Vec<u8>, so_far: Appending, words: &[u8], number: u32) -> Appending

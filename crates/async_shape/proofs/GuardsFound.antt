@@ -4,7 +4,7 @@ use Rattle.std.proofs.Common.{Option, Some, None, is_some, slice_get, refl, sym,
 use Rattle.std.proofs.Common.{arith, if◌then◌else◌}
 use Rattle.std.specs.Option.{option_map, option_map_or, option_and_then}
 use Rattle.std.specs.List.{list_any, position_from}
-use Rattle.std.proofs.lemmas.Bool.{and_parts, eqb-true}
+use Rattle.std.proofs.lemmas.Bool.{and_parts}
 use Rattle.std.proofs.lemmas.Option.{same_Some, none-some}
 use Rattle.rv_base.proofs.Lists.{some_when, some_map, some_and_then, position_from-passes}
 use Rattle.proto_model.specs.Guards.{guards_of, guard_at, after_guard}
@@ -13,12 +13,12 @@ use Rattle.proto_model.specs.ValueTypes.{message_in}
 use Rattle.proto_model.specs.RendezvousNext.{is_tau, part_after_tau, tau_part, accepts}
 use Rattle.proto_model.specs.declared.numbered.Value.{Value}
 use Rattle.proto_model.specs.declared.numbered.Value.TheVariants as value
-use Rattle.proto_model.specs.declared.numbered.RuleKind.{RuleKind}
 use Rattle.proto_model.specs.declared.numbered.RuleKind.TheVariants as action
 use Rattle.proto_model.specs.declared.numbered.Rule.{Rule}
 use Rattle.proto_model.specs.declared.numbered.StateInfo.{StateInfo}
 use Rattle.proto_model.specs.declared.numbered.Body.{Body}
 use Rattle.proto_model.specs.declared.rendezvous.Part.{Part}
+use Rattle.proto_model.proofs.Steps.{tau_is, some_place}
 use Rattle.controller_table.specs.declared.rows.Place.{Place}
 use Rattle.controller_table.specs.declared.rows.Place.TheVariants.{Comm, Trans, Due}
 use Rattle.async_shape.specs.Guards.{Chosen, chosen_at, first_that, idle_state}
@@ -108,12 +108,6 @@ first_that-none passes rules none = by (position_from passes 0 rules) refl
         ∙ ap (option_map give) first.3 in
         absurd (none-some (give first.1) (sym none ∙ found))
 
--- a number that is there and equal is that number
-some_place : (o : Option ℕ) (place : ℕ) → option_map_or (λ m. m == place) o false ≡ true
-    → o ≡ Some place
-some_place None place e = absurd (cc)
-some_place (Some m) place e = ap (λ (n : ℕ). Some n) (eqb-true m place e)
-
 -- What is accepted is the message of an open input.
 pub accepts-input : (vars : List Value) (rule : Rule) (m : ℕ) → accepts vars rule m ≡ true
     → (message_in rule.kind ≡ Some m) × (is_open vars rule ≡ true)
@@ -123,12 +117,6 @@ accepts-input vars rule m e =
     (some_place (message_in rule.kind) m both.0, both.1)
 
 -- ---- a local step
-
--- a local step is a tau
-tau_is : (kind : RuleKind) → is_tau kind ≡ true → kind ≡ action.Tau
-tau_is action.Tau e = refl
-tau_is (action.Input p m bound) e = absurd (cc)
-tau_is (action.Output p m sent) e = absurd (cc)
 
 -- what a local step by guard g is
 pub record IsLocalStep (body : Body) (state : ℕ) (vars : List Value) (g : ℕ) (after : Part)

@@ -221,7 +221,7 @@ fn the_line_of_a_broken_claim_is_refused(rt: HostRuntime) -> Result<(), Wrong> {
     )
 }
 
-// Nothing is looked at but the told words.
+/// Nothing is looked at but the told words.
 pub const NOTHING: &[u8] = b"\
 1 a: stutter
 2 b: refused

@@ -1,6 +1,6 @@
 //! A trace that is accepted, line by line.
 
-// The 21 lines of the trace of one remote that gets the line, in mode lean, without their LFs.
+/// The 21 lines of the trace of one remote that gets the line, in mode lean, without their LFs.
 pub const LINES: [&[u8]; 21] = [
     b"1 remote 0 tau 0: tau 0 0",
     b"  remote 0 R d=0 slot[] up[] down[]",
@@ -25,7 +25,7 @@ pub const LINES: [&[u8]; 21] = [
     b"  remote 0 V d=0",
 ];
 
-// The whole trace.
+/// The whole trace.
 pub const TRACE: &[u8] = b"\
 1 remote 0 tau 0: tau 0 0
   remote 0 R d=0 slot[] up[] down[]

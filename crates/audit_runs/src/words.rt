@@ -3,7 +3,7 @@
 use memory_runs::{Wrong, ends, over_nothing};
 use rvc_top::Status;
 
-// The words of `audit` with one remote.
+/// The words of `audit` with one remote.
 pub const ONE: [&str; 3] = ["audit", "p", "1"];
 
 const NO_FORMS: [&[&str]; 9] = [

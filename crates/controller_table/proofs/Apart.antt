@@ -27,8 +27,7 @@ apart-append (x ∷ xs) ys p q across = (
 )
 
 -- ---- what the items of a list give, where a number of each row is told by its key alone and is
--- the
--- place of the item that gives it
+-- the place of the item that gives it
 
 module _ {A : Type 0} (give : ℕ → A → List Row) (owner : Place → Trigger → ℕ)
     (owned : (i : ℕ) (item : A) → AllByRecursion (λ row. owner row.at row.on ≡ i) (give i item))
@@ -44,12 +43,15 @@ module _ {A : Type 0} (give : ℕ → A → List Row) (owner : Place → Trigger
     flat-behind from [] = tt
     flat-behind from (item ∷ items) =
         AllByRecursion-append (IsBehind from) (give from item) (flat_from give (from + 1) items)
-        (AllByRecursion-weaker (IsOwned from) (IsBehind from) (give from item) (λ row e. omega arith)
+        (AllByRecursion-weaker (IsOwned from) (IsBehind from) (give from item)
+        (λ row e. omega arith)
         (owned from item))
-        (AllByRecursion-weaker (IsBehind (from + 1)) (IsBehind from) (flat_from give (from + 1) items)
+        (AllByRecursion-weaker (IsBehind (from + 1)) (IsBehind from)
+        (flat_from give (from + 1) items)
         (λ row e. omega arith) (flat-behind (from + 1) items))
 
-    another : (from : ℕ) (a b : Row) → IsOwned from a → IsBehind (from + 1) b → HasKey a.at a.on b → ⊥
+    another : (from : ℕ) (a b : Row) → IsOwned from a → IsBehind (from + 1) b
+        → HasKey a.at a.on b → ⊥
     another from a b here behind key =
         let same : owner b.at b.on ≡ owner a.at a.on = cc in
         omega arith
@@ -116,7 +118,8 @@ apart-only (first ∷ rows) zero row at on apart there key =
     )
 apart-only (first ∷ rows) (suc i) row at on apart there key =
     let rest = apart-only rows i row at on apart.1 there key in
-    let others = AllByRecursion-at (λ r. HasKey first.at first.on r → ⊥) rows i row apart.0 there in (
+    let others = AllByRecursion-at (λ r. HasKey first.at first.on r → ⊥) rows i row
+    apart.0 there in (
       key,
       first ∷ rest.1,
       rest.2,

@@ -1,5 +1,5 @@
 -- The rows of the two controllers that a protocol compiles to.
-use Rattle.std.specs.Prelude.{ℕ, ◌+◌, Bool, true, false, not, ◌&&◌, ◌==◌, List, [], ◌∷◌, ◌++◌}
+use Rattle.std.specs.Prelude.{ℕ, Bool, true, false, not, ◌&&◌, ◌==◌, List, [], ◌∷◌, ◌++◌}
 use Rattle.std.specs.Prelude.{Option, Some, None, slice_get, zip}
 use Rattle.std.specs.Option.{option_map_or, option_and_then}
 use Rattle.std.specs.List.{list_any}
@@ -37,8 +37,8 @@ guard_id state guard = record { state = state; guard = guard }
 abbrev pub row : Place → Trigger → Puts → Does → Place → Row
 row at on what done to = record { at = at; on = on; puts = what; does = done; to = to }
 
--- The state to which the first rule of a state goes. Where a reply is awaited, the state has that
--- rule alone.
+-- The state to which the first guard of a state goes. Where a reply is awaited, the state has that
+-- guard alone.
 abbrev pub next_of_first : Body → ℕ → ℕ
 next_of_first body state = option_map_or (λ rule. rule.next) (guard_at body state 0) 0
 

@@ -198,7 +198,8 @@ module _ (of from : Setting) (same : of ≡ from) (count done : ℕ) (within : d
     pub turn-goes_on : moved ≡ true
         → counted_to_end from now d (drive_from from (count - (done + 1)) d next) ≡ whole
     turn-goes_on took =
-        ap (λ (k : ℕ). counted_to_end from now d (drive_from from (count - (done + 1)) d k)) follows_x
+        ap (λ (k : ℕ). counted_to_end from now d (drive_from from (count - (done + 1)) d k))
+        follows_x
         ∙ turn-on from (count - (done + 1)) c d x so_far now
         (subst
         (λ (b : Bool).

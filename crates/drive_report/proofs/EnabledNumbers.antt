@@ -3,17 +3,15 @@
 use Rattle.std.proofs.Common.{◌≡◌, ◌≢◌, ℕ, zero, suc, ◌+◌, ◌*◌, ◌^◌, ◌<◌, ◌≤◌, Bool, true, false}
 use Rattle.std.proofs.Common.{not, ◌&&◌, ◌||◌, ◌==◌, nat_lt, cond, List, [], ◌∷◌, filter, map}
 use Rattle.std.proofs.Common.{length, count_ones, inl, inr, lit<, refl, sym, ap, ap₂, arith, ◌∙◌}
-use Rattle.std.specs.Int.{bit_at}
 use Rattle.std.specs.List.{range_with_len}
-use Rattle.std.proofs.lemmas.Bool.{cases_eq, cases_lt, eq-eqb, ne_eqb, eqb-true, eqb-false, lt-ltb}
+use Rattle.std.proofs.lemmas.Bool.{cases_eq, cases_lt, eq-eqb, ne_eqb, lt-ltb}
 use Rattle.std.proofs.lemmas.Bool.{le-ltb}
 use Rattle.std.proofs.lemmas.List.{length-append}
 use Rattle.std.proofs.lemmas.Nat.{ones-le, ones_cat}
-use Rattle.std.proofs.lemmas.Nat.Bits.{bit_at-lt, same_from_bits}
 use Rattle.std.proofs.lemmas.List.Elements.{filter-append}
 use Rattle.proto_model.specs.NumberSets.{has_number, numbers_below}
 use Rattle.proto_model.proofs.NumberBits.{numbers_below-lt, has_number-numbers_below}
-use Rattle.proto_model.proofs.NumberBits.{has_number-above}
+use Rattle.proto_model.proofs.NumberBits.{has_number-above, same_members}
 use Rattle.proto_model.proofs.NumberSets.{has_number-with, has_number-without}
 use Rattle.drive_report.specs.Rows.{with_answer}
 use Rattle.drive_report.proofs.ReadyList.{range-more}
@@ -43,27 +41,12 @@ filter-members test n from (suc count) within =
     let set = numbers_below test n in
     let below : from < n = omega arith in
     let here : has_number set from ≡ test from =
-    has_number-numbers_below test n from ∙ ap (λ (b : Bool). b && test from) (lt-ltb from n below) in
+    has_number-numbers_below test n from ∙ ap (λ (b : Bool). b && test from)
+    (lt-ltb from n below) in
     ap₂ (λ (passes : Bool) (others : List ℕ). cond passes (from ∷ others) others) here
     (filter-members test n (from + 1) count (omega arith))
 
 -- ---- sets with the same members
-
--- a bit is 1 where the number is in the set, and else 0
-bit-of : (set j : ℕ) → bit_at set j ≡ cond (has_number set j) 1 0
-bit-of set j = by (has_number set j) refl
-  where
-    by : (has : Bool) → has_number set j ≡ has → bit_at set j ≡ cond has 1 0
-    by true is = eqb-true (bit_at set j) 1 is
-    by false is =
-        let other : bit_at set j ≢ 1 = eqb-false (bit_at set j) 1 is in
-        let low = bit_at-lt set j in
-        omega arith
-
-same_members : (a b : ℕ) → ((j : ℕ) → has_number a j ≡ has_number b j) → a ≡ b
-same_members a b same =
-    same_from_bits a b
-    (λ j. bit-of a j ∙ ap (λ (has : Bool). cond has 1 0) (same j) ∙ sym (bit-of b j))
 
 -- Where the tests agree below n, the sets are the same.
 pub numbers_below-agree : (test other : ℕ → Bool) (n : ℕ)

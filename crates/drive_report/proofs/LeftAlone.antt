@@ -1,7 +1,7 @@
--- What each step leaves alone: it puts a packet on a link of the remote that it names, if on any, and
--- takes one from the link from which it arrives.
-use Rattle.std.proofs.Common.{◌≡◌, ◌≢◌, ℕ, zero, suc, Bool, true, false, List, [], ◌∷◌, Option, Some}
-use Rattle.std.proofs.Common.{None, slice_get, get_or, set, nat_lt, length-set, unwrap_or}
+-- What each step leaves alone: it puts a packet on a link of the remote that it names, if on any,
+-- and takes one from the link from which it arrives.
+use Rattle.std.proofs.Common.{◌≡◌, ◌≢◌, ℕ, zero, suc, Bool, true, false, List, [], ◌∷◌, Option}
+use Rattle.std.proofs.Common.{Some, None, slice_get, get_or, set, nat_lt, length-set, unwrap_or}
 use Rattle.std.proofs.Common.{refl, ap, if◌then◌else◌, ◌∙◌, ◌++◌, drop, ◌&&◌, ◌==◌, not}
 use Rattle.std.specs.Option.{option_map, option_map_or, option_and_then}
 use Rattle.rv_base.proofs.Lists.{slice_get-set_other}

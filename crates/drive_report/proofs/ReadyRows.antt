@@ -201,7 +201,9 @@ rows-each_small setting c (f ∷ fs) few = (
 
 all_forms-few : (n : ℕ) → n ≤ 64 → AllByRecursion (λ (f : Form × ℕ). f.1 ≤ 64) (all_forms n)
 unfolding all_forms
-all_forms-few n few = let sixteen : most_guards ≤ 64 = omega arith in forms-few most_guards n sixteen few
+all_forms-few n few =
+    let sixteen : most_guards ≤ 64 = omega arith in
+    forms-few most_guards n sixteen few
 
 pub rows-few : (setting : Setting) (c : Config) → count_of c ≤ 64
     → AreFew (ready_rows setting c)
@@ -292,7 +294,8 @@ pub row-next : (give : Row → Row) (rows old : List Row) (i : ℕ) (other : Row
     → old ≡ map give (take i rows) ++ drop i rows → AllByRecursion IsSmall rows
     → (get_or old i other).count ≤ 64
 row-next give rows old i other within so_far small =
-    subst (λ (now : List Row). (get_or now i other).count ≤ 64) (sym so_far) (by rows i within small)
+    subst (λ (now : List Row). (get_or now i other).count ≤ 64) (sym so_far)
+    (by rows i within small)
   where
     by : (rows : List Row) (i : ℕ) → i < length rows → AllByRecursion IsSmall rows
         → (get_or (map give (take i rows) ++ drop i rows) i other).count ≤ 64
@@ -300,8 +303,8 @@ row-next give rows old i other within so_far small =
     by (row ∷ rows) zero within small = small.0.count
     by (row ∷ rows) (suc i) within small = by rows i (omega arith) small.1
 
--- Asked again after a step that led from one configuration to another, in the same setting, they are
--- the rows there.
+-- Asked again after a step that led from one configuration to another, in the same setting, they
+-- are the rows there.
 pub rows-after : (from of : Setting) (c d : Config) (s : Step) (old new : List Row)
     → count_of c ≤ 64 → of ≡ from → d ≡ after_step from c s → old ≡ ready_rows from c
     → new ≡ map (refreshed of d s) old → new ≡ ready_rows of d

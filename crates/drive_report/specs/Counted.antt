@@ -1,10 +1,9 @@
 -- Links that count the packets of each kind that are put on them.
-use Rattle.std.specs.Prelude.{ℕ, ◌+◌, ◌%◌, ◌^◌, List, Option, Some, None}
+use Rattle.std.specs.Prelude.{ℕ, ◌+◌, ◌%◌, ◌^◌, List}
 use Rattle.ordered_links.specs.Lists.{LinkPair}
 use Rattle.ordered_links.specs.declared.packet.Packet.{Packet}
 use Rattle.ordered_links.specs.declared.packet.Packet.TheVariants as packet
 use Rattle.async_shape.specs.Config.{Config}
-use Rattle.async_shape.specs.Outcome.{Put}
 use Rattle.async_machine.specs.Standing.{Standing, config}
 use Rattle.drive_report.specs.declared.counted.PacketCounts.{PacketCounts}
 
@@ -51,8 +50,3 @@ with_packet (packet.Reply p v) counts = record {
   nacks = counts.nacks;
   replies = next_count counts.replies;
 }
-
--- the counts after a put, if there is one
-abbrev pub with_put : Option Put → PacketCounts → PacketCounts
-with_put None counts = counts
-with_put (Some put) counts = with_packet put.packet counts

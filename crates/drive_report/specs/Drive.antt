@@ -11,10 +11,9 @@ use Rattle.async_shape.specs.Config.{Config, start}
 use Rattle.ordered_links.specs.Packets.{is_request, is_ack, is_nack, is_reply}
 use Rattle.async_shape.specs.Next.{put_of, arriving}
 use Rattle.async_shape.specs.Run.{after_step, run}
-use Rattle.async_shape.specs.declared.config.HomePlace.{HomePlace}
-use Rattle.async_shape.specs.declared.config.HomePlace.TheVariants.{Idle, Waits}
+use Rattle.async_shape.specs.Site.{Site, AtHome, AtRemote, UpFrom, DownTo, site}
 use Rattle.async_shape.specs.declared.step.Step.{Step}
-use Rattle.async_shape.specs.declared.step.Step.TheVariants as step
+use Rattle.async_machine.specs.Standing.{waited_on}
 use Rattle.abstraction_map.specs.Told.{told}
 use Rattle.abstraction_map.specs.declared.told.Told.{Told}
 use Rattle.abstraction_map.specs.declared.told.Told.TheVariants.{Refused, Stutter, Is}
@@ -83,11 +82,6 @@ is_event Refused = false
 is_event Stutter = false
 is_event (Is e) = true
 
--- the home waits on remote j
-abbrev pub waits_on : ℕ → HomePlace → Bool
-waits_on j (Idle state) = false
-waits_on j (Waits waiting) = waiting.on == j
-
 -- of a step in a configuration
 module _ (setting : Setting) (moment : Config × Step) where
   -- it is told as an event
@@ -98,19 +92,19 @@ module _ (setting : Setting) (moment : Config × Step) where
   abbrev pub puts_a : (Packet → Bool) → Bool
   puts_a kind = option_map_or (λ put. kind put.packet) (put_of setting moment.0 moment.1) false
 
--- A request arrives at a home that waits on its sender: it crosses the home's own.
+-- At this site a request arrives at a home that waits on its sender: it crosses the home's own.
+abbrev pub crosses_in : Config → Site → Bool
+crosses_in c (AtHome partner) = false
+crosses_in c (AtRemote j) = false
+crosses_in c (UpFrom j) =
+    if option_map_or (λ on. on == j) (waited_on c.home.place) false
+    then option_map_or is_request (arriving c (Up j)) false
+    else false
+crosses_in c (DownTo j) = false
+
+-- a request crosses the home's own in this step
 abbrev pub crosses_at : Config → Step → Bool
-crosses_at c (step.HomeTau g) = false
-crosses_at c (step.HomeTake j) = false
-crosses_at c (step.HomeSend g j) = false
-crosses_at c (step.HomeDrop j) = false
-crosses_at c (step.RemoteTau j g) = false
-crosses_at c (step.RemoteSend j) = false
-crosses_at c (step.RemoteAnswer j) = false
-crosses_at c (step.RemoteReply j) = false
-crosses_at c (step.Up j) =
-    if waits_on j c.home.place then option_map_or is_request (arriving c (Up j)) false else false
-crosses_at c (step.Down j) = false
+crosses_at c s = crosses_in c (site s)
 
 -- the greatest of the numbers; 0 of none
 abbrev pub greatest : List ℕ → ℕ

@@ -1,7 +1,8 @@
-//! The enabled steps, kept from turn to turn in a row for each form. After a step the rows are asked
-//! again of those steps alone that it can have enabled or disabled.
+//! The enabled steps, kept from turn to turn in a row for each form. After a step the rows are
+//! asked again of those steps alone that it can have enabled or disabled.
 
-ghost use Rattle.std.specs.Prelude.{◌≡◌, ◌<◌, ◌≤◌, ◌++◌, [], ◌∷◌, length, map, slice_get, IfOk, OnOk};
+ghost use Rattle.std.specs.Prelude.{◌≡◌, ◌<◌, ◌≤◌, ◌++◌, [], ◌∷◌, length, map, slice_get, IfOk};
+ghost use Rattle.std.specs.Prelude.{OnOk};
 ghost use Rattle.std.specs.List.{range_with_len};
 ghost use Rattle.async_shape.specs.Config.{count_of};
 ghost use Rattle.async_machine.specs.Standing.{setting, config};

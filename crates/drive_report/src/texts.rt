@@ -1,23 +1,15 @@
 //! The text of a summary.
 #![tactic(auto, using(proto_model::proofs::Continuing::whole))]
 
-ghost use Rattle.std.specs.Prelude.{◌++◌, codes, decimal};
+ghost use Rattle.std.specs.Prelude.{◌++◌, codes};
 ghost use Rattle.rv_base.specs.Appended.{Appends};
 ghost use Rattle.proto_model.specs.Continued.{Continues};
 ghost use Rattle.drive_report.specs.SummaryText as texts;
 
 use crate::summary::Summary;
-use itoa::Buffer;
-use proto_model::{Appending, append};
+use proto_model::{Appending, append, append_number};
 use rv_base::NoMemory;
 use std::alloc::Global;
-
-// The number's decimal text.
-fn append_count(out: &mut Vec<u8>, so_far: Appending, count: u64) -> Appending
-    ensures { Continues (decimal count) so_far out.old.items result out.new.items }
-{
-    append(out, so_far, Buffer::new().format(count).as_bytes())
-}
 
 // A line: a word and a number.
 fn append_line(out: &mut Vec<u8>, so_far: Appending, word: &[u8], count: u64) -> Appending
@@ -26,7 +18,7 @@ fn append_line(out: &mut Vec<u8>, so_far: Appending, word: &[u8], count: u64) ->
 {
     let so_far = append(out, so_far, word);
     let so_far = append(out, so_far, b" ");
-    let so_far = append_count(out, so_far, count);
+    let so_far = append_number(out, so_far, count);
     append(out, so_far, b"\n")
 }
 

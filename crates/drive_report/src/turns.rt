@@ -134,7 +134,7 @@ fn longest_down<L: Links>(machine: &Machine<L>) -> u64
 
 // ---- a turn
 
-// Takes the step, which is enabled, and answers what is counted with it.
+/// Takes the step, which is enabled, and answers what is counted with it.
 pub(crate) fn take(machine: &mut Machine<CountedLinks>, step: Step, so_far: Summary) -> Summary
     requires enabled { is_enabled (setting machine.old)
         (counted_config machine.old) step ≡ true }

@@ -6,7 +6,7 @@ use memory_runs::{
 use rvc_top::Status;
 use std::alloc::Global;
 
-// The home sent a request.
+/// The home sent a request.
 pub fn sent_down() -> &'static [u8] {
     b"\
 steps 1

@@ -1,35 +1,19 @@
 -- What the words of a line say of a move of the network.
-use Rattle.std.proofs.Common.{◌≡◌, ℕ, List, [], ◌∷◌, Bool, true, false, Some, None, Option}
-use Rattle.std.proofs.Common.{arith}
+use Rattle.std.proofs.Common.{◌≡◌, ℕ, List, [], ◌∷◌, Some, None, Option}
 use Rattle.std.proofs.Common.{decimal, if◌then◌else◌, refl, sym, ◌∙◌, ap, subst, bytes_eq, codes}
 use Rattle.std.proofs.lemmas.Option.{same_Some}
-use Rattle.std.proofs.lemmas.Slice.Eq.{bytes_eq-Decides}
 use Rattle.std.specs.Option.{option_and_then}
-use Rattle.rv_base.proofs.DecimalText.{number_of-Some, number_of-decimal}
 use Rattle.rv_base.proofs.Lists.{some_and_then}
+use Rattle.rv_base.proofs.SameWords.{tested}
+use Rattle.proto_model.specs.ScheduleNumbers.{number}
 use Rattle.proto_model.specs.Tokens.{Text, IsNumber}
-use Rattle.faulty_link.specs.NetLines.{way_word, words_of, net_words, HasNumbers, Says, number}
+use Rattle.proto_model.proofs.ScheduleNumbers.{number-is, number-decimal}
+use Rattle.faulty_link.specs.NetLines.{way_word, words_of, net_words, HasNumbers, Says}
 use Rattle.faulty_link.specs.NetLines.{way_said, move_of, named_move, net_step_of}
 use Rattle.faulty_link.specs.declared.net_step.NetStep.{NetStep}
 use Rattle.faulty_link.specs.declared.net_step.NetStep.TheVariants as net
 use Rattle.faulty_link.specs.declared.net_step.Way.{Way}
 use Rattle.faulty_link.specs.declared.net_step.Way.TheVariants as way
-
--- Where the answer of a test comes from.
-tested : {X Goal : Type 0} (word : Text) (is : Text) (x y : Option X) (answer : X)
-    → (if bytes_eq word is then x else y) ≡ Some answer
-    → (word ≡ is → x ≡ Some answer → Goal) → (y ≡ Some answer → Goal) → Goal
-tested {X} {Goal} word is x y answer answered here later =
-    by_test (bytes_eq word is) refl answered where
-      by_test : (b : Bool) → bytes_eq word is ≡ b → (if b then x else y) ≡ Some answer → Goal
-      by_test true same is_x = here ((bytes_eq-Decides word is).0 same) is_x
-      by_test false other is_y = later is_y
-
-number-is : (word : Text) (n : ℕ) → number word ≡ Some n → (word ≡ decimal n) × IsNumber n
-number-is word n e = let h = number_of-Some word 99999 n e in (h.1, omega (arith, h.0))
-
-number-decimal : (n : ℕ) → IsNumber n → number (decimal n) ≡ Some n
-number-decimal n small = number_of-decimal 99999 n (omega arith) (omega (arith, small))
 
 way-is : (word : Text) (on : Way) → way_said word ≡ Some on → word ≡ way_word on
 way-is word on says =

@@ -4,7 +4,7 @@ use Rattle.std.specs.Prelude.{bytes_eq, codes, decimal}
 use Rattle.std.specs.List.{join_with_byte}
 use Rattle.std.specs.Option.{option_and_then}
 use Rattle.rv_base.specs.Words.{words}
-use Rattle.rv_base.specs.Numbers.{number_of}
+use Rattle.proto_model.specs.ScheduleNumbers.{number}
 use Rattle.proto_model.specs.Tokens.{Text, IsNumber}
 use Rattle.faulty_link.specs.declared.net_step.NetStep.{NetStep}
 use Rattle.faulty_link.specs.declared.net_step.NetStep.TheVariants as net
@@ -45,10 +45,6 @@ HasNumbers (net.Pass j on place) = IsNumber j × IsNumber place
 abbrev pub Says : List Text → Option NetStep → Type 0
 Says ws (Some step) = (ws ≡ net_words step) × HasNumbers step
 Says ws None = (step : NetStep) → HasNumbers step → ws ≢ net_words step
-
--- The number from 0 to 99,999 whose decimal text the word is.
-abbrev pub number : Text → Option ℕ
-number word = number_of word 99999
 
 -- The way that this word says.
 abbrev pub way_said : Text → Option Way

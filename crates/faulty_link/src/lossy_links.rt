@@ -18,7 +18,7 @@ use rv_base::NoMemory;
 use std::alloc::Global;
 use std::marker::Model;
 
-/// The two wires of one remote.
+// The two wires of one remote.
 #[derive(Drop)]
 struct Pair {
     up: Ends,

@@ -10,22 +10,9 @@ ghost use Rattle.faulty_link.specs.NetLines as lines;
 ghost use Rattle.faulty_link.specs.NetLines.{Says, net_line};
 
 use crate::net_step::{NetStep, Way};
-use proto_model::{Appending, append, append_number};
-use rv_base::{NoMemory, next_word, read_number};
+use proto_model::{Appending, append, append_argument, schedule_number};
+use rv_base::{NoMemory, next_word};
 use std::alloc::Global;
-
-// The greatest number that a line can write.
-const NUMBER_LIMIT: u64 = 99_999;
-
-// The number from 0 to 99,999 whose decimal text the word is.
-fn number(word: &[u8]) -> Option<u32>
-    ensures { result ≡ lines.number word.now }
-{
-    match read_number(word, NUMBER_LIMIT) {
-        Some(number) => Some(number as u32),
-        None => None,
-    }
-}
 
 // The way that the word says.
 fn way_said(word: &[u8]) -> Option<Way>
@@ -63,7 +50,12 @@ fn move_of(what: &[u8], remote: u32, way: Way, place: u32) -> Option<NetStep>
 fn named_move(remote: &[u8], way: &[u8], what: &[u8], place: &[u8]) -> Option<NetStep>
     ensures { result ≡ lines.named_move remote.now way.now what.now place.now }
 {
-    move_of(what, number(remote)?, way_said(way)?, number(place)?)
+    move_of(
+        what,
+        schedule_number(remote)?,
+        way_said(way)?,
+        schedule_number(place)?,
+    )
 }
 
 // The move that this word and those of the rest of the line say.
@@ -90,14 +82,6 @@ pub fn read_net_line(line: &[u8]) -> Option<NetStep>
 {
     let (first, rest) = next_word(line)?;
     step_of(first, rest)
-}
-
-// A space, and a number.
-fn append_argument(out: &mut Vec<u8>, so_far: Appending, number: u32) -> Appending
-    ensures { Continues (argument number) so_far out.old.items result out.new.items }
-{
-    let so_far = append(out, so_far, b" ");
-    append_number(out, so_far, number)
 }
 
 // A space, and the word of the way.

@@ -20,7 +20,7 @@ use rv_base::NoMemory;
 use std::alloc::Global;
 use std::marker::Model;
 
-/// The most frames in a flight.
+// The most frames in a flight.
 const FLIGHT: usize = 8;
 
 /// What the two ends of a wire keep, and the frames between them. The window is a ring that gives

@@ -1,6 +1,6 @@
 //! Schedules of steps and of moves of the network, played on the two controllers of a protocol.
 
-ghost use Rattle.std.specs.Prelude.{◌≡◌, ◌≤◌, ◌++◌, true, length, IfOk, IfSome, OnOk};
+ghost use Rattle.std.specs.Prelude.{◌≡◌, ◌≤◌, ◌++◌, true, IfOk, IfSome, OnOk};
 ghost use Rattle.rv_base.specs.Whole.{TakesAtMost};
 ghost use Rattle.schedule_replay.specs.Replayed.{StopsSo, WritesSo, ReplayCounts, ReplayWants};
 ghost use Rattle.schedule_replay.specs.ScheduleLimits.{schedule_limits, most_taken};

@@ -6,7 +6,7 @@ ghost use Rattle.std.specs.Prelude.{length, Some, None};
 ghost use Rattle.rv_base.specs.Appended.{Appends};
 ghost use Rattle.proto_model.specs.Continued.{Continues};
 ghost use Rattle.proto_model.specs.Texts.{separator};
-ghost use Rattle.faulty_link.specs.Moves.{link_on, link_of, remote_of};
+ghost use Rattle.faulty_link.specs.Moves.{link_on, remote_of};
 ghost use Rattle.faulty_link.specs.NetLines.{net_text};
 ghost use Rattle.faulty_link.specs.Wire.{wire_on};
 ghost use Rattle.run_replay.specs.Listed.{joined};
@@ -14,18 +14,10 @@ ghost use Rattle.run_replay.specs.StateLines.{bracketed};
 ghost use Rattle.lossy_replay.specs.LossyTrace as texts;
 
 use faulty_link::{LossyLinks, NetStep, Way, net_text};
-use itoa::Buffer;
 use ordered_links::Links;
 use proto_model::{Appending, append, append_number};
 use rv_base::NoMemory;
 use std::alloc::Global;
-
-// A number of packets or of a frame.
-fn put_number(out: &mut Vec<u8>, so_far: Appending, number: u64) -> Appending
-    ensures { Continues (decimal number) so_far out.old.items result out.new.items }
-{
-    append(out, so_far, Buffer::new().format(number).as_bytes())
-}
 
 // The number of a frame, the first of the list or a later one.
 fn put_frame(out: &mut Vec<u8>, so_far: Appending, first: bool, number: u64) -> Appending
@@ -33,10 +25,10 @@ fn put_frame(out: &mut Vec<u8>, so_far: Appending, first: bool, number: u64) -> 
         out.new.items }
 {
     if first {
-        return put_number(out, so_far, number);
+        return append_number(out, so_far, number);
     }
     let so_far = append(out, so_far, b",");
-    put_number(out, so_far, number)
+    append_number(out, so_far, number)
 }
 
 // The numbers of the frames that are under way on this wire of remote j, the first one first.
@@ -83,7 +75,7 @@ fn put_link_words(j: u8, way: Way, out: &mut Vec<u8>, so_far: Appending) -> Appe
     ensures { Continues (texts.link_words (link_on j way)) so_far out.old.items result
         out.new.items }
 {
-    let so_far = append_number(out, so_far, u32::from(j));
+    let so_far = append_number(out, so_far, u64::from(j));
     match way {
         Way::Up => append(out, so_far, b" up"),
         Way::Down => append(out, so_far, b" down"),
@@ -105,9 +97,9 @@ fn put_wire_line(
     let so_far = append(out, so_far, b"  link ");
     let so_far = put_link_words(j, way, out, so_far);
     let so_far = append(out, so_far, b" put ");
-    let so_far = put_number(out, so_far, links.put_count(j, way));
+    let so_far = append_number(out, so_far, links.put_count(j, way));
     let so_far = append(out, so_far, b" got ");
-    let so_far = put_number(out, so_far, links.got_count(j, way));
+    let so_far = append_number(out, so_far, links.got_count(j, way));
     let so_far = put_flight(links, j, way, out, so_far);
     append(out, so_far, b"\n")
 }

@@ -3,7 +3,7 @@
 use memory_runs::{Wrong, ends, over_nothing};
 use rvc_top::Status;
 
-// The words of `lossy` with one remote and two slots.
+/// The words of `lossy` with one remote and two slots.
 pub const ONE_LEAN: [&str; 5] = ["lossy", "p", "1", "2", "lean"];
 
 const NO_FORMS: [&[&str]; 11] = [

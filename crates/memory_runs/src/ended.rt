@@ -3,7 +3,7 @@
 use crate::{Case, Text, Wrong};
 use rvc_top::Status;
 
-// How a run ended.
+/// How a run ended.
 #[derive(Clone, Copy)]
 pub struct Ended<'a> {
     pub most: usize,
@@ -14,7 +14,7 @@ pub struct Ended<'a> {
 }
 
 impl<'a> Ended<'a> {
-    // How a run ended of which no call was to fail.
+    /// How a run ended of which no call was to fail.
     pub fn steady(most: usize, status: Status, written: &'a [u8], left: usize) -> Ended<'a> {
         Ended {
             most,
@@ -26,8 +26,8 @@ impl<'a> Ended<'a> {
     }
 }
 
-// How a run must end: with this status and text, and, where that is said, with so many bytes of the
-// schedule left.
+/// How a run must end: with this status and text, and, where that is said, with so many bytes of
+/// the schedule left.
 #[derive(Clone, Copy)]
 pub struct End<'a> {
     pub status: Status,
@@ -43,7 +43,7 @@ fn is_told(text: Text<'_>, written: &[u8]) -> bool {
     }
 }
 
-// How many bytes the pieces have.
+/// How many bytes the pieces have.
 pub fn length(pieces: &[&[u8]]) -> usize {
     let mut length: usize = 0;
     for piece in pieces {
@@ -53,7 +53,7 @@ pub fn length(pieces: &[&[u8]]) -> usize {
 }
 
 impl<'a> End<'a> {
-    // How the case's run must end where no call fails.
+    /// How the case's run must end where no call fails.
     pub fn of(case: &Case<'a>) -> End<'a> {
         End {
             status: case.status,
@@ -69,7 +69,7 @@ impl<'a> End<'a> {
         }
     }
 
-    // Nothing where the case's run ended so, else how it ended.
+    /// Nothing where the case's run ended so, else how it ended.
     pub fn judged(&self, case: &Case<'_>, ended: &Ended<'_>) -> Result<(), Wrong> {
         let is_told = is_told(self.text, ended.written);
         if self.status == ended.status && is_told && self.leaves(ended.left) {

@@ -84,7 +84,7 @@ pub fn left_after(alloc: Global, case: &Case<'_>, most: usize) -> Result<usize, 
     Ok(run.left())
 }
 
-// That the run ends so of which these calls fail, the one with the number `call` among them.
+/// That the run ends so of which these calls fail, the one with the number `call` among them.
 pub fn ends_failing(
     alloc: Global,
     case: &Case<'_>,

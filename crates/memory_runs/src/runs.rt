@@ -5,6 +5,7 @@ use rv_base::{MemorySink, MemorySource, NoMemory, ReadAnswer, Source, SteadySink
 use rvc_top::{Status, rvc, rvc_steady};
 use std::alloc::Global;
 
+/// These words as the program has them.
 pub fn strings(alloc: Global, words: &[&str]) -> Result<Vec<String>, NoMemory> {
     let mut strings = Vec::new(alloc);
     for word in words {
@@ -35,7 +36,7 @@ fn left_in<S: Source>(source: &mut S) -> usize {
     left
 }
 
-// A source of the pieces that never fails.
+/// A source of the pieces that never fails.
 pub fn steady_source(
     alloc: Global,
     pieces: &[&[u8]],
@@ -56,7 +57,7 @@ fn failing_source(
     MemorySource::new(alloc, &bytes, most.max(1), &[call])
 }
 
-// A run of which no call fails.
+/// A run of which no call fails.
 #[derive(Drop)]
 pub struct SteadyRun {
     words: Vec<String>,
@@ -66,6 +67,7 @@ pub struct SteadyRun {
 }
 
 impl SteadyRun {
+    /// The run of this case, in which each call moves at most `most` bytes, and one at least.
     pub fn new(alloc: Global, case: &Case<'_>, most: usize) -> Result<SteadyRun, NoMemory> {
         let words = strings(alloc, case.words)?;
         let file = steady_source(alloc, case.file, most)?;
@@ -78,6 +80,7 @@ impl SteadyRun {
         })
     }
 
+    /// Makes the run, and answers its status.
     pub fn status(&mut self, alloc: Global) -> Status {
         rvc_steady(
             alloc,
@@ -88,16 +91,18 @@ impl SteadyRun {
         )
     }
 
+    /// How many bytes of the schedule are left.
     pub fn left(&mut self) -> usize {
         left_in(&mut self.schedule)
     }
 
+    /// The bytes that were written.
     pub fn written(&self) -> &[u8] {
         self.sink.taken()
     }
 }
 
-// The numbers of the calls that fail, counted from 1, and 0 where none does.
+/// The numbers of the calls that fail, counted from 1, and 0 where none does.
 #[derive(Clone, Copy)]
 pub struct Failing {
     pub file: u64,
@@ -106,6 +111,7 @@ pub struct Failing {
 }
 
 impl Failing {
+    /// No call fails.
     pub const NONE: Failing = Failing {
         file: 0,
         schedule: 0,
@@ -131,7 +137,7 @@ impl Failing {
     }
 }
 
-// A run of which some calls fail.
+/// A run of which some calls fail.
 #[derive(Drop)]
 pub struct FailingRun {
     words: Vec<String>,
@@ -141,6 +147,8 @@ pub struct FailingRun {
 }
 
 impl FailingRun {
+    /// The run of this case, in which each call moves at most `most` bytes, and one at least, and
+    /// these calls fail. The first read of what the run may not read fails too.
     pub fn new(
         alloc: Global,
         case: &Case<'_>,
@@ -159,6 +167,7 @@ impl FailingRun {
         })
     }
 
+    /// Makes the run, and answers its status.
     pub fn status(&mut self, alloc: Global) -> Status {
         rvc(
             alloc,
@@ -169,10 +178,12 @@ impl FailingRun {
         )
     }
 
+    /// How many bytes of the schedule are left.
     pub fn left(&mut self) -> usize {
         left_in(&mut self.schedule)
     }
 
+    /// The bytes that were written.
     pub fn written(&self) -> &[u8] {
         self.sink.taken()
     }

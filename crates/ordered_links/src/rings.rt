@@ -11,8 +11,8 @@ use rv_base::NoMemory;
 use std::alloc::Global;
 use std::marker::Model;
 
-/// The two links of one remote. A ring that is full would give up its first packet, so each is as
-/// large as a link's list can get.
+// The two links of one remote. A ring that is full would give up its first packet, so each is as
+// large as a link's list can get.
 #[derive(Drop)]
 struct Pair {
     up: HeapCircularBuffer<Packet>,

@@ -28,8 +28,7 @@ use Rattle.proto_model.specs.declared.rendezvous.RvConfig.{RvConfig}
 use Rattle.proto_model.specs.declared.rendezvous.Event.{Event}
 use Rattle.proto_model.specs.declared.rendezvous.Event.TheVariants as event
 use Rattle.rv_base.proofs.Lists.{AllByRecursion-at, AllByRecursion-set}
-use Rattle.rv_base.proofs.Lists.{AllByRecursion-replicate}
-use Rattle.proto_model.proofs.Steps.{some_and_then}
+use Rattle.rv_base.proofs.Lists.{AllByRecursion-replicate, some_and_then}
 use Rattle.proto_model.proofs.TypedRules.{AreOfKinds-first, AreOfKinds-completed, IsCarried-send}
 
 -- the start

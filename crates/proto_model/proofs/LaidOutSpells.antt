@@ -32,7 +32,7 @@ space_is_space : is_space 32 ≡ true
 unfolding is_space
 space_is_space = refl
 
-line_feed_is_space : is_space 10 ≡ true
+pub line_feed_is_space : is_space 10 ≡ true
 unfolding is_space
 line_feed_is_space = refl
 
@@ -196,6 +196,7 @@ laid_out_spells p sayable =
     record {
       sayable = sayable;
       laid = subst
-          (λ (tokens : List Token). Laid (laid_out p) (spellings tokens)) (tokens_of_lines-protocol p)
+          (λ (tokens : List Token). Laid (laid_out p) (spellings tokens))
+          (tokens_of_lines-protocol p)
           (Laid-lines (lines_of p));
     }

@@ -12,3 +12,4 @@ pub mod Continuing
 pub mod KeptConfig
 pub mod ProperFacts
 pub mod PartnerRemembered
+pub mod ScheduleNumbers

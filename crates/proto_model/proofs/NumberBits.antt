@@ -2,13 +2,14 @@
 -- of.
 use Rattle.std.proofs.Common.{◌≡◌, ◌≢◌, ℕ, zero, suc, ◌+◌, ◌*◌, ◌%◌, ◌^◌, ◌<◌, ◌≤◌, max, Bool, true}
 use Rattle.std.proofs.Common.{false, ◌&&◌, nat_lt, cond, bit_and, bit_or, inl, inr, lit<, refl, sym}
-use Rattle.std.proofs.Common.{ap, ◌∙◌, arith, add-one}
+use Rattle.std.proofs.Common.{ap, ◌∙◌, ◌==◌, arith, add-one}
 use Rattle.std.specs.Int.{bit_at}
 use Rattle.std.proofs.lemmas.Nat.{pow_below, or_disjoint}
 use Rattle.std.proofs.lemmas.Nat.Bits.{bit_at_above, bit_at_or, and_pow, bit_at-pow_same}
-use Rattle.std.proofs.lemmas.Nat.Bits.{bit_at-pow_other}
+use Rattle.std.proofs.lemmas.Nat.Bits.{bit_at-pow_other, bit_at-lt, same_from_bits}
 use Rattle.std.proofs.lemmas.Bool.{cases_lt, cases_eq, false≢true, cond_both, cond-true, cond-false}
-use Rattle.std.proofs.lemmas.Bool.{lt-ltb, le-ltb, and_from, and_left, and_right}
+use Rattle.std.proofs.lemmas.Bool.{lt-ltb, le-ltb, and_from, and_left, and_right, eqb-true}
+use Rattle.std.proofs.lemmas.Bool.{eqb-false}
 use Rattle.std.proofs.Math.Nat.{pow-succ', pow-le-pow_right, mod-eq_of_lt, one-mul, zero-mul}
 use Rattle.proto_model.specs.NumberSets.{has_number, numbers_below}
 
@@ -138,3 +139,19 @@ has_number-numbers_below test zero j =
 has_number-numbers_below test (suc n) j =
     one_more (numbers_below test n) n j (test n) (test j) (numbers_below-lt test n)
     (has_number-numbers_below test n j) (ap test)
+
+same_bit : (a b : ℕ) → a < 2 → b < 2 → (a == 1) ≡ (b == 1) → a ≡ b
+same_bit a b small_a small_b same = by (b == 1) refl
+  where
+    by : (t : Bool) → (b == 1) ≡ t → a ≡ b
+    by true is = eqb-true a 1 (same ∙ is) ∙ sym (eqb-true b 1 is)
+    by false is =
+        let a_other : a ≢ 1 = eqb-false a 1 (same ∙ is) in
+        let b_other : b ≢ 1 = eqb-false b 1 is in
+        omega arith
+
+-- sets with the same members are the same
+pub same_members : (a b : ℕ) → ((s : ℕ) → has_number a s ≡ has_number b s) → a ≡ b
+same_members a b same =
+    same_from_bits a b
+    (λ s. same_bit (bit_at a s) (bit_at b s) (bit_at-lt a s) (bit_at-lt b s) (same s))

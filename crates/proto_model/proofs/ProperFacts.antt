@@ -301,7 +301,8 @@ module _ (protocol : NumberedProtocol) (state g : ℕ) (rule : Rule) (proper : I
     pub remote_guard : guard_at protocol.remote state g ≡ Some rule
         → IsGuardOf side.Remote protocol.messages protocol.remote state g rule
     remote_guard there =
-        guard_at-proper side.Remote protocol.messages protocol.remote state g rule proper.remote there
+        guard_at-proper side.Remote protocol.messages protocol.remote state g rule
+        proper.remote there
 
     -- Home outputs and remote inputs name down messages, the others up messages.
     pub home_output-down : (m : ℕ) → guard_at protocol.home state g ≡ Some rule

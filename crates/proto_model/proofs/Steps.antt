@@ -4,6 +4,7 @@ use Rattle.std.proofs.Common.{◌≡◌, ℕ, Bool, true, false, ◌&&◌, ◌==
 use Rattle.std.proofs.Common.{slice_get, slice_set, refl, sym, ap, subst, ◌∙◌}
 use Rattle.std.specs.Option.{option_map, option_map_or, option_and_then}
 use Rattle.std.proofs.lemmas.Bool.{and_parts, and_from, eqb-true, eq-eqb}
+use Rattle.rv_base.proofs.Lists.{some_map, some_and_then}
 use Rattle.proto_model.specs.Numbered.{NumberedProtocol}
 use Rattle.proto_model.specs.Values.{is_open, may_meet, sends}
 use Rattle.proto_model.specs.ValueTypes.{message_in, message_out}
@@ -35,17 +36,7 @@ map-some : {A B : Type 0} (f : A → B) (o : Option A) (x : A) → o ≡ Some x
     → option_map f o ≡ Some (f x)
 map-some f o x e = ap (option_map f) e
 
-pub some_and_then : {A B : Type 0} (f : A → Option B) (o : Option A) (y : B)
-    → option_and_then f o ≡ Some y → (x : A) × (o ≡ Some x) × (f x ≡ Some y)
-some_and_then f None y e = absurd (cc)
-some_and_then f (Some x) y e = (x, refl, e)
-
-some_map : {A B : Type 0} (f : A → B) (o : Option A) (y : B) → option_map f o ≡ Some y
-    → (x : A) × (o ≡ Some x) × (f x ≡ y)
-some_map f None y e = absurd (cc)
-some_map f (Some x) y e = let same : f x ≡ y = cc in (x, refl, same)
-
-when-true : {A : Type 0} (b : Bool) (x y : Option A) → b ≡ true → cond b x y ≡ x
+pub when-true : {A : Type 0} (b : Bool) (x y : Option A) → b ≡ true → cond b x y ≡ x
 when-true b x y e = ap (λ (t : Bool). cond t x y) e
 
 some_when : {A : Type 0} (b : Bool) (o : Option A) (y : A) → cond b o None ≡ Some y
@@ -53,14 +44,16 @@ some_when : {A : Type 0} (b : Bool) (o : Option A) (y : A) → cond b o None ≡
 some_when true o y e = (refl, e)
 some_when false o y e = absurd (cc)
 
--- kinds of rules
+-- kinds of guards
 
-tau_is : (kind : RuleKind) → is_tau kind ≡ true → kind ≡ action.Tau
+-- a local step is a tau
+pub tau_is : (kind : RuleKind) → is_tau kind ≡ true → kind ≡ action.Tau
 tau_is action.Tau e = refl
 tau_is (action.Input p m bound) e = absurd (cc)
 tau_is (action.Output p m sent) e = absurd (cc)
 
-some_place : (o : Option ℕ) (place : ℕ) → option_map_or (λ m. m == place) o false ≡ true
+-- a number that is there and equal is that number
+pub some_place : (o : Option ℕ) (place : ℕ) → option_map_or (λ m. m == place) o false ≡ true
     → o ≡ Some place
 some_place None place e = absurd (cc)
 some_place (Some m) place e = ap (λ (n : ℕ). Some n) (eqb-true m place e)

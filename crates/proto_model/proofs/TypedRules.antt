@@ -302,7 +302,8 @@ AreOfKinds-completed messages infos vars rule j v typed below received =
     (record {
       proper = typed.proper_infos;
       kinds = AreOfKinds-after_meeting typed.side messages
-          infos vars rule.kind j v typed.proper_carries before below received typed.proper_rule.action;
+          infos vars rule.kind j v typed.proper_carries before below received
+          typed.proper_rule.action;
     })
     typed.proper_rule.assigns
 

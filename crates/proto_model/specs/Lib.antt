@@ -24,4 +24,5 @@ pub mod Rendezvous
 pub mod RendezvousNext
 pub mod Pairs
 pub mod Texts
+pub mod ScheduleNumbers
 pub mod Continued

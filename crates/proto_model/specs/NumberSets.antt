@@ -1,6 +1,5 @@
 -- Sets of numbers below 64, of remotes or of states: a set is a number whose bit j is 1 exactly
--- where
--- j is in it.
+-- where j is in it.
 use Rattle.std.specs.Prelude.{ℕ, zero, suc, ◌+◌, ◌-◌, ◌^◌, Bool, ◌==◌, nat_lt, if◌then◌else◌, List}
 use Rattle.std.specs.Prelude.{[], ◌∷◌, ◌++◌, bit_or}
 use Rattle.std.specs.Int.{bit_at}

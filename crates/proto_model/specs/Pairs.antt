@@ -17,15 +17,15 @@ use Rattle.proto_model.specs.declared.numbered.Rule.{Rule}
 use Rattle.proto_model.specs.declared.numbered.RuleAtom.{RuleAtom}
 use Rattle.proto_model.specs.declared.numbered.Body.{Body}
 
--- all rules of a process, in file order
+-- all guards of a process, in file order
 abbrev pub all_rules : Body → List Rule
 all_rules body = flat_map (λ state. state.rules) body.states
 
--- the rule is an output of the message
+-- the guard is an output of the message
 abbrev pub gives_message : ℕ → Rule → Bool
 gives_message m rule = option_map_or (λ k. k == m) (message_out rule.kind) false
 
--- the rule is an input of the message
+-- the guard is an input of the message
 abbrev pub takes_message : ℕ → Rule → Bool
 takes_message m rule = option_map_or (λ k. k == m) (message_in rule.kind) false
 
@@ -34,7 +34,7 @@ abbrev pub no_atoms : List RuleAtom → Bool
 no_atoms [] = true
 no_atoms (atom ∷ atoms) = false
 
--- the rule is an input of the message without a condition
+-- the guard is an input of the message without a condition
 abbrev pub awaits : ℕ → Rule → Bool
 awaits m rule = takes_message m rule && no_atoms rule.conds
 
@@ -64,19 +64,19 @@ output_var action.Tau = None
 output_var (action.Input p m bound) = None
 output_var (action.Output p m sent) = partner_var p
 
--- no assignment of the rule is to variable x
+-- no assignment of the guard is to variable x
 abbrev pub leaves_alone : ℕ → Rule → Bool
 leaves_alone x rule = list_all (λ assign. not (assign.var == x)) rule.assigns
 
--- the state to which the rule goes has one rule alone, which passes the test
+-- the state to which the guard goes has one guard alone, which passes the test
 abbrev pub goes_to_only : Body → (Rule → Bool) → Rule → Bool
 goes_to_only body test rule = option_map_or test (only_next body rule) false
 
--- each rule that passes the first test passes the second
+-- each guard that passes the first test passes the second
 abbrev pub each_that : (Rule → Bool) → (Rule → Bool) → List Rule → Bool
 each_that first second rules = list_all (λ rule. not (first rule) || second rule) rules
 
--- some rule passes the first test, and each rule that does passes the second
+-- some guard passes the first test, and each guard that does passes the second
 abbrev pub some_and_each : (Rule → Bool) → (Rule → Bool) → List Rule → Bool
 some_and_each first second rules = list_any first rules && each_that first second rules
 
@@ -90,7 +90,7 @@ module _ (protocol : NumberedProtocol) where
   goes_down m = option_map_or (λ info. not info.up) (slice_get protocol.messages m) false
 
   -- An up message q is paired with the down message p: some remote output gives q, and each one
-  -- goes to a state whose only rule is an input of p without a condition.
+  -- goes to a state whose only guard is an input of p without a condition.
   abbrev pub is_up_pair : ℕ → ℕ → Bool
   is_up_pair q p =
       goes_up q && (goes_down p
@@ -98,14 +98,14 @@ module _ (protocol : NumberedProtocol) where
       (all_rules protocol.remote))
 
   -- The home's output to the remote that x becomes or is leaves x alone in its assignments, and
-  -- goes to a state whose only rule is an input of p from the remote that x holds, without a
+  -- goes to a state whose only guard is an input of p from the remote that x holds, without a
   -- condition.
   abbrev pub awaits_from_target : ℕ → Rule → ℕ → Bool
   awaits_from_target p rule x =
       leaves_alone x rule
       && goes_to_only protocol.home (λ input. is_from x input.kind && awaits p input) rule
 
-  -- The rule is an output of the home to a remote that a variable holds, and it awaits p from this
+  -- The guard is an output of the home to a remote that a variable holds, and it awaits p from this
   -- remote.
   abbrev pub awaits_answer : ℕ → Rule → Bool
   awaits_answer p rule = option_map_or (awaits_from_target p rule) (output_var rule.kind) false

@@ -122,7 +122,7 @@ pub record IsProperAssign (vars : List VarInfo) (a : RuleAssign) : Type 0 where
   pub value : IsExprInRange (length vars) a.value
   pub types : rule_assign_agrees vars a ≡ true
 
--- What a rule does: all its places are in range, its types agree, its message goes the way that it
+-- What a guard does: all its places are in range, its types agree, its message goes the way that it
 -- says, and it meets the home where it is a remote's, and remotes where it is the home's.
 pub record IsProperAction (s : Side) (messages : List MessageInfo) (vars : List VarInfo)
     (k : RuleKind) : Type 0 where
@@ -131,7 +131,7 @@ pub record IsProperAction (s : Side) (messages : List MessageInfo) (vars : List 
   pub direction : is_directed_rule s messages k ≡ true
   pub star : is_star_rule s k ≡ true
 
--- A rule of a process with these variables and so many states: its action, each condition and each
+-- A guard of a process with these variables and so many states: its action, each condition and each
 -- assignment are proper, and it goes to one of the states.
 pub record IsProperRule (s : Side) (messages : List MessageInfo) (vars : List VarInfo) (states : ℕ)
     (r : Rule) : Type 0 where
@@ -145,13 +145,13 @@ pub record IsSmallRule (r : Rule) : Type 0 where
   pub few_conds : length r.conds ≤ 8
   pub few_assigns : length r.assigns ≤ 8
 
--- the rule is an output
+-- the guard is an output
 abbrev pub is_output_kind : RuleKind → Bool
 is_output_kind action.Tau = false
 is_output_kind (action.Input p m bound) = false
 is_output_kind (action.Output p m sent) = true
 
--- a remote state with an output has exactly that one rule, without a condition
+-- a remote state with an output has exactly that one guard, without a condition
 abbrev pub IsActiveForm : Side → List Rule → Type 0
 IsActiveForm side.Home rules = Unit {0}
 IsActiveForm side.Remote rules =

@@ -30,7 +30,7 @@ rv_start protocol n = record {
   remotes = replicate n (start_part protocol.remote);
 }
 
--- rule g of the process is a local step, and it is open
+-- guard g of the process is a local step, and it is open
 pub record TakesTau (body : Body) (part : Part) (g : ℕ) (rule : Rule) : Type 0 where
   pub there : guard_at body part.state g ≡ Some rule
   pub tau : rule.kind ≡ action.Tau
@@ -56,7 +56,7 @@ pub record TauRemoteStep (protocol : NumberedProtocol) (old : RvConfig) (j g : �
       ≡ slice_set old.remotes j
       (after_guard protocol.remote remote.vars rule rule.next 0 value.Unit)
 
--- The one rule is an output and the other an input of the same message.
+-- The one guard is an output and the other an input of the same message.
 pub record Meets (messages : List MessageInfo) (output input : Rule)
     (message : MessageInfo) : Type 0 where
   pub place : ℕ
@@ -64,8 +64,8 @@ pub record Meets (messages : List MessageInfo) (output input : Rule)
   pub received : message_in input.kind ≡ Some place
   pub there : slice_get messages place ≡ Some message
 
--- Remote j and the home move together: rule r of the remote is an output and rule h of the home an
--- open input of the same message, of which j is a target. Both rules are completed, h with the
+-- Remote j and the home move together: guard r of the remote is an output and guard h of the home
+-- an open input of the same message, of which j is a target. Both guards are completed, h with the
 -- value that r sends; the other remotes are as they were.
 pub record UpStep (protocol : NumberedProtocol) (old : RvConfig) (j h r : ℕ)
     (new : RvConfig) : Type 0 where
@@ -86,9 +86,9 @@ pub record UpStep (protocol : NumberedProtocol) (old : RvConfig) (j h r : ℕ)
       ≡ slice_set old.remotes j
       (after_guard protocol.remote remote.vars output output.next 0 value.Unit)
 
--- The home and remote j move together: rule h of the home is an open output of which j is a target,
--- and rule r of the remote an open input of the same message. Both rules are completed, r with the
--- value that h sends; the other remotes are as they were.
+-- The home and remote j move together: guard h of the home is an open output of which j is a
+-- target, and guard r of the remote an open input of the same message. Both guards are completed, r
+-- with the value that h sends; the other remotes are as they were.
 pub record DownStep (protocol : NumberedProtocol) (old : RvConfig) (j h r : ℕ)
     (new : RvConfig) : Type 0 where
   pub remote : Part

@@ -18,20 +18,20 @@ use Rattle.proto_model.specs.declared.rendezvous.RvConfig.{RvConfig}
 use Rattle.proto_model.specs.declared.rendezvous.Event.{Event}
 use Rattle.proto_model.specs.declared.rendezvous.Event.TheVariants as event
 
--- the rule is a local step
+-- the guard is a local step
 abbrev pub is_tau : RuleKind → Bool
 is_tau action.Tau = true
 is_tau (action.Input p m bound) = false
 is_tau (action.Output p m sent) = false
 
--- the process after its local step by this rule
+-- the process after its local step by this guard
 abbrev pub part_after_tau : Body → Part → Rule → Option Part
 part_after_tau body part rule =
     if is_tau rule.kind
     && is_open part.vars rule then Some
     (after_guard body part.vars rule rule.next 0 value.Unit) else None
 
--- the process after its local step by its rule g; none where rule g is no open local step
+-- the process after its local step by its guard g; none where guard g is no open local step
 abbrev pub tau_part : Body → Part → ℕ → Option Part
 tau_part body part g = option_and_then (part_after_tau body part) (guard_at body part.state g)
 
@@ -42,7 +42,7 @@ given messages vars kind =
     (λ place. option_map (λ m. (place, sends vars kind m.carries)) (slice_get messages place))
     (message_out kind)
 
--- the rule is an open input of the message
+-- the guard is an open input of the message
 abbrev pub accepts : List Value → Rule → ℕ → Bool
 accepts vars rule place =
     option_map_or (λ m. m == place) (message_in rule.kind) false && is_open vars rule
@@ -69,7 +69,7 @@ module _ (protocol : NumberedProtocol) (home remote : Part) (j : ℕ) where
   up_by output input =
       option_and_then (up_given output input) (given protocol.messages remote.vars output.kind)
 
-  -- remote j by its rule r and the home by its rule h
+  -- remote j by its guard r and the home by its guard h
   abbrev pub up_parts : ℕ → ℕ → Option Parts
   up_parts h r =
       option_and_then
@@ -95,7 +95,7 @@ module _ (protocol : NumberedProtocol) (home remote : Part) (j : ℕ) where
       then option_and_then (down_given output input) (given protocol.messages home.vars output.kind)
       else None
 
-  -- the home by its rule h and remote j by its rule r
+  -- the home by its guard h and remote j by its guard r
   abbrev pub down_parts : ℕ → ℕ → Option Parts
   down_parts h r =
       option_and_then

@@ -1,4 +1,4 @@
--- The types of a rule, over the variables and messages of its numbered protocol. A place past the
+-- The types of a guard, over the variables and messages of its numbered protocol. A place past the
 -- end has no type.
 use Rattle.std.specs.Prelude.{ℕ, Bool, true, false, ◌&&◌, List, Option, Some, slice_get}
 use Rattle.std.specs.Option.{option_map, option_map_or, option_and_then}
@@ -53,7 +53,7 @@ module _ (vars : List VarInfo) where
   abbrev pub rule_assign_agrees : RuleAssign → Bool
   rule_assign_agrees a = are_of_one_type (rule_var_type a.var) (rule_expr_type a.value)
 
-  -- A home rule's partner is a node, and what stands after its `in` is a set.
+  -- A home guard's partner is a node, and what stands after its `in` is a set.
   abbrev pub rule_partner_agrees : Side → RulePartner → Bool
   rule_partner_agrees side.Remote p = true
   rule_partner_agrees side.Home partner.Home = true
@@ -81,14 +81,14 @@ is_directed_rule s messages (action.Input p m bound) =
 is_directed_rule s messages (action.Output p m value) =
     option_map_or (λ i. goes_out s i.up) (slice_get messages m) false
 
--- the partner of a remote's rule is the home, that of a home's rule is not
+-- the partner of a remote's guard is the home, that of a home's guard is not
 abbrev pub is_star_rule_partner : Side → RulePartner → Bool
 is_star_rule_partner side.Home partner.Home = false
 is_star_rule_partner side.Home _ = true
 is_star_rule_partner side.Remote partner.Home = true
 is_star_rule_partner side.Remote _ = false
 
--- a rule that meets a process meets one that its side may meet
+-- a guard that meets a process meets one that its side may meet
 abbrev pub is_star_rule : Side → RuleKind → Bool
 is_star_rule s action.Tau = true
 is_star_rule s (action.Input p m bound) = is_star_rule_partner s p

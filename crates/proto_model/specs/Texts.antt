@@ -1,4 +1,5 @@
--- The texts of values, messages with their values, variables, rendezvous lines and events.
+-- The texts of values, messages with their values, variables, rendezvous lines and events, and the
+-- names of states and messages.
 use Rattle.std.specs.Prelude.{ℕ, Bool, true, false, List, [], ◌∷◌, ◌++◌, Option, Some, None}
 use Rattle.std.specs.Prelude.{slice_get, map, codes, decimal}
 use Rattle.std.specs.Option.{option_map_or}
@@ -64,15 +65,19 @@ abbrev pub process_text : Option ℕ → Text
 process_text None = codes "  home "
 process_text (Some j) = codes "  remote " ++ (decimal j ++ codes " ")
 
--- the name of the state in which the process stands
-abbrev pub state_name : Body → Part → Text
-state_name body part = option_map_or (λ state. state.name) (slice_get body.states part.state) []
+-- the name of the state with this number; no text where there is none
+abbrev pub state_name : Body → ℕ → Text
+state_name body state = option_map_or (λ info. info.name) (slice_get body.states state) []
+
+-- the name of the message with this number; no text where there is none
+abbrev pub message_name : List MessageInfo → ℕ → Text
+message_name messages m = option_map_or (λ info. info.name) (slice_get messages m) []
 
 -- the rendezvous line of the home, or of a remote: its state and its variables
 abbrev pub rv_line : Body → Part → Option ℕ → Text
 rv_line body part remote =
     process_text remote
-    ++ (state_name body part ++ (vars_text body.vars part.vars ++ codes "\n"))
+    ++ (state_name body part.state ++ (vars_text body.vars part.vars ++ codes "\n"))
 
 -- a number behind an event's first words
 abbrev pub argument : ℕ → Text

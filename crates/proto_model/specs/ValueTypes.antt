@@ -64,25 +64,25 @@ abbrev pub IsCarriedBy : List MessageInfo → ℕ → Value → Type 0
 IsCarriedBy messages place v =
     (info : MessageInfo) → slice_get messages place ≡ Some info → IsCarried info.carries v
 
--- where the rule is an input, the value is of its message's type
+-- where the guard is an input, the value is of its message's type
 abbrev pub IsReceived : List MessageInfo → RuleKind → Value → Type 0
 IsReceived messages action.Tau v = Unit {0}
 IsReceived messages (action.Input p m bound) v = IsCarriedBy messages m v
 IsReceived messages (action.Output p m sent) v = Unit {0}
 
--- the message that the rule sends
+-- the message that the guard sends
 abbrev pub message_out : RuleKind → Option ℕ
 message_out action.Tau = None
 message_out (action.Input p m bound) = None
 message_out (action.Output p m sent) = Some m
 
--- the message that the rule takes in
+-- the message that the guard takes in
 abbrev pub message_in : RuleKind → Option ℕ
 message_in action.Tau = None
 message_in (action.Input p m bound) = Some m
 message_in (action.Output p m sent) = None
 
--- the rule is an output of a message that carries this
+-- the guard is an output of a message that carries this
 pub record Offers (messages : List MessageInfo) (rule : Rule) (carries : Carry) : Type 0 where
   pub place : ℕ
   pub message : MessageInfo
@@ -90,7 +90,7 @@ pub record Offers (messages : List MessageInfo) (rule : Rule) (carries : Carry) 
   pub there : slice_get messages place ≡ Some message
   pub same : message.carries ≡ carries
 
--- It is a proper rule of a process with these declarations, in a protocol with these messages, and
+-- It is a proper guard of a process with these declarations, in a protocol with these messages, and
 -- each variable has a value of its type.
 pub record IsTyped (messages : List MessageInfo) (infos : List VarInfo) (vars : List Value)
     (rule : Rule) : Type 0 where

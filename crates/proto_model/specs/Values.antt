@@ -1,5 +1,5 @@
--- The values that rules compute with: what an expression is worth, whether a rule is open, whom it
--- may meet, what it sends, and the variables after it is completed.
+-- The values that guards compute with: what an expression is worth, whether a guard is open, whom
+-- it may meet, what it sends, and the variables after it is completed.
 use Rattle.std.specs.Prelude.{ℕ, ◌+◌, ◌-◌, ◌%◌, Bool, true, false, not, ◌==◌, nat_lt, nat_le, List}
 use Rattle.std.specs.Prelude.{slice_get, slice_set, Option, Some, None, unwrap_or, map, fold}
 use Rattle.std.specs.Option.{option_map_or}
@@ -122,7 +122,7 @@ module _ (vars : List Value) where
   abbrev pub holds : RuleAtom → Bool
   holds a = is_related a.rel (value_of a.left) (value_of a.right)
 
-  -- a rule is open where all its conditions are true; without conditions it is open
+  -- a guard is open where all its conditions are true; without conditions it is open
   abbrev pub is_open : Rule → Bool
   is_open rule = list_all holds rule.conds
 
@@ -134,13 +134,13 @@ module _ (vars : List Value) where
   is_target (partner.Member x s) j = is_set_with (var_value s) j
   is_target (partner.Named x) j = is_node (var_value x) j
 
-  -- remote j is a target of the rule's partner; a local step has none
+  -- remote j is a target of the guard's partner; a local step has none
   abbrev pub may_meet : RuleKind → ℕ → Bool
   may_meet action.Tau j = false
   may_meet (action.Input p m bound) j = is_target p j
   may_meet (action.Output p m sent) j = is_target p j
 
-  -- the targets of the rule among the remotes below n, as a set
+  -- the targets of the guard among the remotes below n, as a set
   abbrev pub target_set : Rule → ℕ → ℕ
   target_set rule n = numbers_below (may_meet rule.kind) n
 
@@ -191,7 +191,7 @@ module _ (infos : List VarInfo) where
   abbrev pub after_assign : List Value → RuleAssign → List Value
   after_assign vars a = with_var vars a.var (value_of vars a.value)
 
-  -- The variables after the rule is completed with partner j and value v: the partner variable is
+  -- The variables after the guard is completed with partner j and value v: the partner variable is
   -- set, then the bound variable, and then the assignments are made in order, each seeing the ones
   -- before.
   abbrev pub completed : List Value → Rule → ℕ → Value → List Value

@@ -22,7 +22,7 @@ pub fn append(out: &mut Vec<u8>, so_far: Appending, bytes: &[u8]) -> Appending
 }
 
 /// Appends the number's decimal text, unless memory ran out before.
-pub fn append_number(out: &mut Vec<u8>, so_far: Appending, number: u32) -> Appending
+pub fn append_number(out: &mut Vec<u8>, so_far: Appending, number: u64) -> Appending
     ensures { Continues (decimal number) so_far out.old.items result out.new.items }
 {
     append(out, so_far, Buffer::new().format(number).as_bytes())

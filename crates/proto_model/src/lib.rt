@@ -7,8 +7,9 @@
 //! - `values`: how expressions, conditions and guards compute.
 //! - `offers`: the guards of a state, and what each of them gives or accepts.
 //! - `layout`: the laid-out text of a protocol.
-//! - `texts`: the texts of values, events and processes.
+//! - `texts`: the texts of values, events and processes, and the names of states and messages.
 //! - `appending`: how both put their texts together.
+//! - `schedule_numbers`: the numbers that a line of a schedule says.
 //! - `copies`: copies of the parts of a protocol.
 //! - `laws`: what follows from the definitions alone.
 //!
@@ -27,6 +28,7 @@ mod numbered;
 mod offers;
 mod protocol;
 mod rendezvous;
+mod schedule_numbers;
 mod texts;
 mod values;
 
@@ -40,10 +42,14 @@ pub use numbered::{
     Body, MessageInfo, NumberedClaim, Rule, RuleAssign, RuleAtom, RuleExpr, RuleKind, RulePartner,
     RuleTerm, Side, StateInfo, Value, ValueType, VarInfo,
 };
-pub use offers::{accepts, given, guard_at, guards_of, is_open_tau, is_output, is_tau};
+pub use offers::{accepts, given, guard_at, guards_of, is_open_tau, is_output};
 pub use protocol::{Carry, Claim, Initial, Message, Process, Protocol, State, Var, VarKind};
 pub use rendezvous::{Event, Part, RvConfig};
-pub use texts::{event_text, message_text, rv_line, separator, vars_text};
+pub use schedule_numbers::schedule_number;
+pub use texts::{
+    append_argument, event_text, message_name, message_text, rv_line, separator, state_name,
+    vars_text,
+};
 pub use values::{
     Vars, complete, eval, first_vars, guard_open, has_number, is_target, send_value, targets,
 };

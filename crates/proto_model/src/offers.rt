@@ -31,13 +31,6 @@ pub fn guard_at(body: &Body, state: u8, number: usize) -> Option<&Rule>
     info.rules.as_slice().get(number)
 }
 
-/// Whether the guard is a local step.
-pub fn is_tau(rule: &Rule) -> bool
-    ensures { result ≡ next.is_tau rule.now.kind }
-{
-    matches!(rule.kind, RuleKind::Tau)
-}
-
 /// Whether the guard is a local step that is open with these variables.
 pub fn is_open_tau(rule: &Rule, vars: &Vars) -> bool
     ensures { result ≡ (next.is_tau rule.now.kind && is_open vars.now rule.now) }

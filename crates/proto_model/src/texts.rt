@@ -5,13 +5,15 @@ ghost use Rattle.std.specs.Prelude.{◌≡◌, ◌<◌, length};
 ghost use Rattle.rv_base.specs.Appended.{Appends};
 ghost use Rattle.proto_model.specs.Texts as texts;
 
+mod names;
 mod pieces;
 
 use crate::numbered::{Body, MessageInfo, Value};
 use crate::rendezvous::{Event, Part};
 use crate::texts::pieces::{put_event, put_line, put_message, put_vars};
 use crate::values::Vars;
-pub use pieces::separator;
+pub use names::{message_name, state_name};
+pub use pieces::{append_argument, separator};
 use rv_base::NoMemory;
 use std::alloc::Global;
 

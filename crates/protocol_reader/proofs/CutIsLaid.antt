@@ -13,7 +13,8 @@ use Rattle.protocol_reader.specs.LexemeLines.{line_feeds}
 use Rattle.protocol_reader.proofs.Cutting.{IsSpace, OpensComment, GoesOn, EndsWord, StandsAlone}
 use Rattle.protocol_reader.proofs.Cutting.{first_byte, space_no_word, word_no_space}
 use Rattle.protocol_reader.proofs.Cutting.{comment_slashes}
-use Rattle.protocol_reader.proofs.Cutting.{slash_no_word, line_feed_is_space, cut_end}
+use Rattle.proto_model.proofs.LaidOutSpells.{line_feed_is_space}
+use Rattle.protocol_reader.proofs.Cutting.{slash_no_word, cut_end}
 use Rattle.protocol_reader.proofs.Cutting.{cut_within_comment, cut_space, cut_comment}
 use Rattle.protocol_reader.proofs.Cutting.{cut_word_byte, cut_word_end, cut_other}
 

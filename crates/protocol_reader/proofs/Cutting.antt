@@ -47,10 +47,6 @@ slash_no_space : is_space 47 ≡ false
 unfolding is_space
 slash_no_space = refl
 
-pub line_feed_is_space : is_space 10 ≡ true
-unfolding is_space
-line_feed_is_space = refl
-
 -- a comment begins with two slashes
 pub comment_slashes : (b : ℕ) (bs : Text) → begins_comment (b ∷ bs) ≡ true
     → (more : Text) × (b ≡ 47) × (bs ≡ 47 ∷ more)

@@ -9,7 +9,8 @@ use Rattle.std.proofs.lemmas.List.Sums.{prefix_len-le-length}
 use Rattle.proto_model.specs.Tokens.{Text, is_word, is_space, begins_word, AllWord}
 use Rattle.proto_model.specs.Lexemes.{line_after, begins_comment, cut}
 use Rattle.protocol_reader.specs.Front.{begins_gap, lexemes_from}
-use Rattle.protocol_reader.proofs.Cutting.{comment_slashes, line_feed_is_space, cut_end}
+use Rattle.proto_model.proofs.LaidOutSpells.{line_feed_is_space}
+use Rattle.protocol_reader.proofs.Cutting.{comment_slashes, cut_end}
 use Rattle.protocol_reader.proofs.Cutting.{cut_within_comment, cut_space, cut_comment, cut_other}
 use Rattle.protocol_reader.proofs.Cutting.{cut_word}
 

@@ -1,5 +1,6 @@
 -- What `read` answers, by what the reading of the file comes to.
 use Rattle.std.proofs.Common.{◌≡◌, ◌≤◌, ℕ, Ok, Err, length, sym, ◌∙◌}
+use Rattle.rv_base.specs.Whole.{file_limit}
 use Rattle.proto_model.specs.Tokens.{Text}
 use Rattle.proto_model.specs.Spelled.{Spells, IsFaultLine}
 use Rattle.proto_model.specs.declared.protocol.Protocol.{Protocol}
@@ -17,7 +18,7 @@ pub at_is : (a : At) (bytes : Text) → a.lexemes ≡ (start_of bytes).lexemes
     → a.lines ≡ (start_of bytes).lines → a ≡ start_of bytes
 at_is a bytes e f = λ i. record { lexemes = e i; lines = f i }
 
-pub refused_cause : (bytes : Text) (e : ReadError) → length bytes ≤ 65536
+pub refused_cause : (bytes : Text) (e : ReadError) → length bytes ≤ file_limit
     → Fails (file (start_of bytes)) e → HasCause bytes e
 refused_cause bytes TooLong le h = absurd h
 refused_cause bytes (Syntax line) le h = (le, file_stuck bytes line h)

@@ -1,5 +1,6 @@
 -- What `read` answers.
 use Rattle.std.specs.Prelude.{◌≡◌, ◌≤◌, ◌<◌, ℕ, length, Result, Ok, Err}
+use Rattle.rv_base.specs.Whole.{file_limit}
 use Rattle.proto_model.specs.Tokens.{Text}
 use Rattle.proto_model.specs.Spelled.{Spells, IsFaultLine, item_lines}
 use Rattle.proto_model.specs.declared.protocol.Protocol.{Protocol}
@@ -10,12 +11,12 @@ use Rattle.protocol_reader.specs.declared.error.ReadError.TheVariants.{TooLong, 
 -- the bytes spell what is read, and the lines are those of its items
 abbrev pub IsSpelled : Text → Spelled → Type 0
 IsSpelled bytes s =
-    (length bytes ≤ 65536) × Spells bytes s.protocol × (s.lines ≡ item_lines bytes s.protocol)
+    (length bytes ≤ file_limit) × Spells bytes s.protocol × (s.lines ≡ item_lines bytes s.protocol)
 
 -- each error comes only for its cause; want of memory needs none
 abbrev pub HasCause : Text → ReadError → Type 0
-HasCause bytes TooLong = 65536 < length bytes
-HasCause bytes (Syntax line) = (length bytes ≤ 65536) × IsFaultLine bytes line
+HasCause bytes TooLong = file_limit < length bytes
+HasCause bytes (Syntax line) = (length bytes ≤ file_limit) × IsFaultLine bytes line
 HasCause bytes NoMemory = Unit {0}
 
 -- this protocol is read, unless memory runs out

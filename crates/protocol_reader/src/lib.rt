@@ -15,6 +15,7 @@
 #![tactic(auto)]
 
 ghost use Rattle.std.specs.Prelude.{◌≡◌, ◌<◌, ◌≤◌, length, IfOk, IfErr, ℕ};
+ghost use Rattle.rv_base.specs.Whole.{file_limit};
 ghost use Rattle.proto_model.specs.Spelled.{Spells, IsFaultLine};
 ghost use Rattle.proto_model.specs.declared.protocol.Protocol.{Protocol as NamedProtocol};
 ghost use Rattle.protocol_reader.specs.Answer.{IsSpelled, HasCause, ReadsAs};
@@ -49,12 +50,12 @@ pub fn read(alloc: Global, bytes: &[u8]) -> Result<Spelled, ReadError>
     ensures cause { IfErr result (HasCause bytes.now) }
 
     // What is spelled is read, and nothing else: it is the only protocol that the bytes spell.
-    ensures only { (p : NamedProtocol) → length bytes.now ≤ 65536 → Spells bytes.now p
+    ensures only { (p : NamedProtocol) → length bytes.now ≤ file_limit → Spells bytes.now p
         → ReadsAs p result }
 
     // A file that is too long, or that spells nothing, is refused so.
-    ensures too_long { 65536 < length bytes.now → IsTooLong result }
-    ensures syntax { (line : ℕ) → length bytes.now ≤ 65536 → IsFaultLine bytes.now line
+    ensures too_long { file_limit < length bytes.now → IsTooLong result }
+    ensures syntax { (line : ℕ) → length bytes.now ≤ file_limit → IsFaultLine bytes.now line
         → IsRefusedAt line result }
 {
     if bytes.len() > FILE_LIMIT {

@@ -6,18 +6,15 @@ ghost use Rattle.controller_table.specs.declared.rows.Trigger.TheVariants as tri
 
 use crate::paired_body::PairedBody;
 use controller_table::{Does, GuardId, Place, Puts, Row, Trigger};
-use proto_model::{Body, Rule};
+use proto_model::{Body, Rule, guard_at};
 use rv_base::{Items, NoMemory};
 
-// The state to which the first rule of the state at this place goes.
+// The state to which the first guard of the state at this place goes.
 fn next_of_first(body: &Body, state: u8) -> u8
     ensures { result ≡ spec.next_of_first body.now state }
 {
-    match body.states.as_slice().get(state as usize) {
-        Some(info) => match info.rules.as_slice().first() {
-            Some(rule) => rule.next,
-            None => 0,
-        },
+    match guard_at(body, state, 0) {
+        Some(rule) => rule.next,
         None => 0,
     }
 }

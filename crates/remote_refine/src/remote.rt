@@ -11,7 +11,7 @@ use crate::paired_body::PairedBody;
 use crate::replies::all_replies;
 use crate::states::{GuardRows, StateRows, push_guards, push_states};
 use controller_table::{Does, GuardId, Place, Puts, Row, Trigger};
-use proto_model::{Rule, RuleKind, StateInfo};
+use proto_model::{Rule, RuleKind, StateInfo, is_output};
 use request_reply::Pairs;
 use rv_base::{Items, NoMemory};
 use star_check::Checked;
@@ -78,14 +78,11 @@ fn push_output(
     Ok(())
 }
 
-// Some rule is an output.
+// Some guard is an output.
 fn is_active(info: &StateInfo) -> bool
     ensures { result ≡ spec.is_active info.now }
 {
-    info.rules
-        .as_slice()
-        .iter()
-        .any(|rule| matches!(rule.kind, RuleKind::Output(..)))
+    info.rules.as_slice().iter().any(|rule| is_output(rule))
 }
 
 // The controller of a remote.

@@ -30,14 +30,14 @@ given_in protocol config (event.Down j h r) =
     given_by protocol.messages protocol.home config.home h
 
 -- the message with this number, and its value
-abbrev pub numbered_message : List MessageInfo → ℕ → Value → Text
-numbered_message messages m v =
+abbrev pub message_by_number : List MessageInfo → ℕ → Value → Text
+message_by_number messages m v =
     option_map_or (λ info. message_text info v) (slice_get messages m) []
 
 -- a space and the message with its value, where one is given
 abbrev pub given_text : List MessageInfo → Option (ℕ × Value) → Text
 given_text messages message =
-    option_map_or (λ m. codes " " ++ numbered_message messages m.0 m.1) message []
+    option_map_or (λ m. codes " " ++ message_by_number messages m.0 m.1) message []
 
 -- the event, and the message that is given in it where it takes place in this configuration
 abbrev pub event_told : NumberedProtocol → RvConfig → Event → Text

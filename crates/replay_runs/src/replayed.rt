@@ -3,7 +3,7 @@
 use memory_runs::{Case, Reads, Text};
 use rvc_top::Status;
 
-// `rv` over this file with one remote and a schedule of these pieces, and how it must end.
+/// `rv` over this file with one remote and a schedule of these pieces, and how it must end.
 pub fn replayed<'a>(
     file: &'a [&'a [u8]],
     schedule: &'a [&'a [u8]],

@@ -4,6 +4,7 @@ use crate::replayed::replayed;
 use memory_runs::{ARITH, MIGRATORY, Wrong, ends};
 use rvc_top::Status;
 
+/// The trace of the three events by which one remote of `MIGRATORY` gets the line.
 pub const MIGRATES: &[u8] = b"\
 1 tau 0 0: moved
   remote 0 R d=0

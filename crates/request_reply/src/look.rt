@@ -6,7 +6,7 @@ ghost use Rattle.proto_model.specs.Pairs as pairs;
 ghost use Rattle.proto_model.specs.ValueTypes as types;
 ghost use Rattle.request_reply.specs.Looks as spec;
 
-use proto_model::{Body, Rule, RuleKind, RulePartner};
+use proto_model::{Body, Rule, RuleKind, RulePartner, guards_of};
 
 /// Which guards of a process are looked at, and for which reply of their message.
 #[derive(Clone, Copy, Debug, PartialEq, Eq, Drop)]
@@ -93,8 +93,7 @@ fn leaves_alone(var: u8, rule: &Rule) -> bool
 fn only_next<'a>(body: &'a Body, rule: &Rule) -> Option<&'a Rule>
     ensures { option_copied result ≡ the_only_next body.now rule.now }
 {
-    let state = body.states.as_slice().get(rule.next as usize)?;
-    match state.rules.as_slice() {
+    match guards_of(body, rule.next) {
         [only] => Some(only),
         _ => None,
     }

@@ -18,7 +18,7 @@ use Rattle.controller_table.specs.declared.controller.Controller.{Controller}
 use Rattle.async_shape.specs.Config.{Config}
 use Rattle.abstraction_map.specs.Abstraction.{abstraction}
 use Rattle.run_replay.specs.RunTrace.{abstract_lines}
-use Rattle.run_replay.proofs.Shown.{name_of-with_nexts}
+use Rattle.run_replay.proofs.Shown.{state_name-with_nexts}
 
 module _ (next : GuardId → ℕ) (body : Body) where
   -- A process that stands in the body with other nexts stands in the body.
@@ -42,7 +42,7 @@ module _ (next : GuardId → ℕ) (body : Body) where
   rv_line-with_nexts part remote =
       ap (λ (name : Text). process_text remote
       ++ (name ++ (vars_text body.vars part.vars ++ codes "\n")))
-      (name_of-with_nexts next body part.state)
+      (state_name-with_nexts next body part.state)
 
   -- So are those of several processes.
   lines-with_nexts : (from : ℕ) (parts : List Part)

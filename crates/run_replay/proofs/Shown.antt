@@ -7,6 +7,7 @@ use Rattle.std.proofs.lemmas.Option.{slice_get-get_or, slice_get_past}
 use Rattle.rv_base.specs.Lists.{flat_from, map_from}
 use Rattle.rv_base.proofs.Lists.{flat_from-one_more}
 use Rattle.proto_model.specs.Tokens.{Text}
+use Rattle.proto_model.specs.Texts.{state_name}
 use Rattle.proto_model.specs.Numbered.{NumberedProtocol}
 use Rattle.proto_model.specs.declared.numbered.StateInfo.{StateInfo}
 use Rattle.proto_model.specs.declared.numbered.Body.{Body}
@@ -19,7 +20,7 @@ use Rattle.async_shape.specs.Shape.{IsShaped}
 use Rattle.async_shape.specs.declared.config.RemoteState.{RemoteState}
 use Rattle.async_shape.proofs.ShapeParts.{IsShaped-whole, IsShaped-case}
 use Rattle.async_machine.specs.Standing.{setting_of}
-use Rattle.run_replay.specs.StateLines.{name_of, remote_line_of, remote_state_line}
+use Rattle.run_replay.specs.StateLines.{remote_line_of, remote_state_line}
 
 -- ---- names
 
@@ -37,9 +38,9 @@ name_in-map_from give from (info ∷ states) (suc s) same =
     name_in-map_from give (from + 1) states s same
 
 -- A body in which guards go elsewhere has the same names.
-pub name_of-with_nexts : (next : GuardId → ℕ) (body : Body) (s : ℕ)
-    → name_of (with_nexts next body) s ≡ name_of body s
-name_of-with_nexts next body s = name_in-map_from _ 0 body.states s (λ i info. refl)
+pub state_name-with_nexts : (next : GuardId → ℕ) (body : Body) (s : ℕ)
+    → state_name (with_nexts next body) s ≡ state_name body s
+state_name-with_nexts next body s = name_in-map_from _ 0 body.states s (λ i info. refl)
 
 -- ---- variables
 

@@ -1,5 +1,5 @@
 -- What the words of a line of a schedule of steps say.
-use Rattle.std.proofs.Common.{◌≡◌, ◌≢◌, ℕ, List, [], ◌∷◌, Bool, true, false, Some, None, Option}
+use Rattle.std.proofs.Common.{◌≡◌, ◌≢◌, ℕ, List, [], ◌∷◌, Some, None}
 use Rattle.std.proofs.Common.{decimal, if◌then◌else◌, refl, sym, ◌∙◌, ap, subst}
 use Rattle.std.specs.Prelude.{bytes_eq, codes}
 use Rattle.std.specs.Option.{option_map, option_and_then}
@@ -9,35 +9,15 @@ use Rattle.proto_model.specs.Tokens.{Text, IsNumber}
 use Rattle.async_shape.specs.declared.step.Step.{Step}
 use Rattle.async_shape.specs.declared.step.Step.TheVariants as step
 use Rattle.async_machine.specs.StepText.{step_words}
-use Rattle.schedule_replay.specs.EventLines.{number}
-use Rattle.schedule_replay.proofs.EventWords.{number-is, number-decimal, same-bytes}
+use Rattle.proto_model.specs.ScheduleNumbers.{number}
+use Rattle.proto_model.proofs.ScheduleNumbers.{number-is, number-decimal}
+use Rattle.rv_base.proofs.SameWords.{two, three, four, tested}
 use Rattle.run_replay.specs.StepLines.{HasNumbers, arrival_step, home_step, remote_step}
 use Rattle.run_replay.specs.StepLines.{short_step, long_step, step_of}
 
 -- These are the words of the step, whose numbers a line can write.
 abbrev IsSaid : List Text → Step → Type 0
 IsSaid ws s = (ws ≡ step_words s) × HasNumbers s
-
--- Equal words make equal lines.
-two : {a b x y : Text} → a ≡ x → b ≡ y → a ∷ b ∷ [] ≡ x ∷ y ∷ []
-two p q = cc
-
-three : {a b c x y z : Text} → a ≡ x → b ≡ y → c ≡ z → a ∷ b ∷ c ∷ [] ≡ x ∷ y ∷ z ∷ []
-three p q r = cc
-
-four : {a b c d x y z w : Text} → a ≡ x → b ≡ y → c ≡ z → d ≡ w
-    → a ∷ b ∷ c ∷ d ∷ [] ≡ x ∷ y ∷ z ∷ w ∷ []
-four p q r s = cc
-
--- Where the answer of a test comes from.
-tested : {X Goal : Type 0} (word : Text) (is : Text) (x y : Option X) (answer : X)
-    → (if bytes_eq word is then x else y) ≡ Some answer
-    → (word ≡ is → x ≡ Some answer → Goal) → (y ≡ Some answer → Goal) → Goal
-tested {X} {Goal} word is x y answer answered here later =
-    by_test (bytes_eq word is) refl answered where
-      by_test : (b : Bool) → bytes_eq word is ≡ b → (if b then x else y) ≡ Some answer → Goal
-      by_test true same is_x = here (same-bytes word is same) is_x
-      by_test false other is_y = later is_y
 
 -- A word of one of two, and a number.
 says-arrival : (way j : Text) (s : Step) → arrival_step way j ≡ Some s → IsSaid (way ∷ j ∷ []) s

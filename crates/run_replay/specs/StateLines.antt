@@ -7,10 +7,10 @@ use Rattle.std.specs.List.{join_with_byte}
 use Rattle.rv_base.specs.Lists.{flat_from}
 use Rattle.proto_model.specs.Tokens.{Text}
 use Rattle.proto_model.specs.Numbered.{NumberedProtocol}
-use Rattle.proto_model.specs.Texts.{vars_text, process_text}
+use Rattle.proto_model.specs.Texts.{vars_text, process_text, state_name, message_name}
 use Rattle.proto_model.specs.declared.numbered.MessageInfo.{MessageInfo}
 use Rattle.proto_model.specs.declared.numbered.Body.{Body}
-use Rattle.rendezvous_meaning.specs.GivenMessage.{numbered_message}
+use Rattle.rendezvous_meaning.specs.GivenMessage.{message_by_number}
 use Rattle.controller_table.specs.declared.rows.Place.{Place}
 use Rattle.controller_table.specs.declared.rows.Place.TheVariants.{Comm, Trans, Due}
 use Rattle.slot_reserve.specs.declared.held.Held.{Held}
@@ -27,38 +27,30 @@ use Rattle.async_shape.specs.declared.config.Request.{Request}
 abbrev pub bracketed : List Text → Text
 bracketed texts = codes "[" ++ (join_with_byte 44 texts ++ codes "]")
 
--- the name of the state with this number
-abbrev pub name_of : Body → ℕ → Text
-name_of body state = option_map_or (λ info. info.name) (slice_get body.states state) []
-
 -- the place of the home: the name of its state; or, while it waits, `S/G>J` with the state that it
 -- left, the guard and the remote
 abbrev pub home_place_text : Body → HomePlace → Text
-home_place_text body (Idle state) = name_of body state
+home_place_text body (Idle state) = state_name body state
 home_place_text body (Waits waiting) =
-    name_of body waiting.by.state
+    state_name body waiting.by.state
     ++ (codes "/" ++ (decimal waiting.by.guard ++ (codes ">" ++ decimal waiting.on)))
 
 -- the place of a remote: the name of its state; the state that it left and `*` while it waits; its
 -- active state and `!` while it is due to reply
 abbrev pub remote_place_text : Body → Place → Text
-remote_place_text body (Comm state) = name_of body state
-remote_place_text body (Trans g) = name_of body g.state ++ codes "*"
-remote_place_text body (Due g) = name_of body g.state ++ codes "!"
+remote_place_text body (Comm state) = state_name body state
+remote_place_text body (Trans g) = state_name body g.state ++ codes "*"
+remote_place_text body (Due g) = state_name body g.state ++ codes "!"
 
 module _ (messages : List MessageInfo) where
-  -- the name of the message with this number
-  abbrev pub message_name : ℕ → Text
-  message_name m = option_map_or (λ info. info.name) (slice_get messages m) []
-
   -- a held request: its remote, `:` and the message with its value
   abbrev pub held_text : Held → Text
   held_text held =
-      decimal held.from ++ (codes ":" ++ numbered_message messages held.message held.value)
+      decimal held.from ++ (codes ":" ++ message_by_number messages held.message held.value)
 
   -- a debt to remote j: the remote, `:` and the message's name
   abbrev pub debt_text : ℕ → ℕ → Text
-  debt_text j p = decimal j ++ (codes ":" ++ message_name p)
+  debt_text j p = decimal j ++ (codes ":" ++ message_name messages p)
 
   -- the debt to remote j, if there is one
   abbrev pub debt_texts : ℕ → Option ℕ → List Text
@@ -67,16 +59,16 @@ module _ (messages : List MessageInfo) where
 
   -- a packet: `?` and a request, `=` and a reply, `+` for an ack, `-` for a nack
   abbrev pub packet_text : Packet → Text
-  packet_text (packet.Request m v) = codes "?" ++ numbered_message messages m v
+  packet_text (packet.Request m v) = codes "?" ++ message_by_number messages m v
   packet_text packet.Ack = codes "+"
   packet_text packet.Nack = codes "-"
-  packet_text (packet.Reply p v) = codes "=" ++ numbered_message messages p v
+  packet_text (packet.Reply p v) = codes "=" ++ message_by_number messages p v
 
   -- the request in a slot, if there is one
   abbrev pub slot_texts : Option Request → List Text
   slot_texts None = []
   slot_texts (Some request) =
-      numbered_message messages request.message request.value ∷ []
+      message_by_number messages request.message request.value ∷ []
 
 -- the line of the home: its place, its variables, the requests that it holds in order of arrival,
 -- and its debts in the order of the remotes

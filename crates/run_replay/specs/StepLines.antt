@@ -7,7 +7,7 @@ use Rattle.proto_model.specs.Tokens.{Text, IsNumber}
 use Rattle.async_shape.specs.declared.step.Step.{Step}
 use Rattle.async_shape.specs.declared.step.Step.TheVariants as step
 use Rattle.async_machine.specs.StepText.{step_words}
-use Rattle.schedule_replay.specs.EventLines.{number}
+use Rattle.proto_model.specs.ScheduleNumbers.{number}
 use Rattle.schedule_replay.specs.declared.player.Meaning.{Meaning}
 use Rattle.schedule_replay.specs.declared.player.Meaning.TheVariants as line
 

@@ -12,7 +12,7 @@ ghost use Rattle.ordered_links.specs.declared.packet.Packet.{Packet as APacket};
 ghost use Rattle.ordered_links.specs.Lists.{links_at};
 ghost use Rattle.async_shape.specs.View.{nobody};
 ghost use Rattle.async_machine.specs.Standing.{config};
-ghost use Rattle.run_replay.specs.Listed.{AreAll, further, is_nil, joined, packet_texts};
+ghost use Rattle.run_replay.specs.Listed.{AreAll, further, joined, packet_texts};
 ghost use Rattle.run_replay.specs.Listed.{remote_standing};
 ghost use Rattle.run_replay.specs.StateLines as texts;
 
@@ -20,7 +20,8 @@ use async_machine::{HomePlace, Machine, Request};
 use controller_table::{Place, Table};
 use ordered_links::{Links, Packet};
 use proto_model::{
-    Appending, Body, MessageInfo, Vars, append, append_number, separator, vars_text,
+    Appending, Body, MessageInfo, Vars, append, append_number, message_name, separator, state_name,
+    vars_text,
 };
 use schedule_replay::put_message;
 use slot_reserve::Held;
@@ -28,19 +29,9 @@ use std::alloc::Global;
 
 // ---- names, numbers and messages
 
-// The name of the state with this number.
-fn state_name(body: &Body, state: u8) -> &[u8]
-    ensures { result.now ≡ texts.name_of body.now state }
-{
-    match body.states.as_slice().get(state as usize) {
-        Some(info) => info.name.bytes(),
-        None => b"",
-    }
-}
-
 // The name of the home's state with this number.
 fn home_state_name(table: &Table, state: u8) -> &[u8]
-    ensures { result.now ≡ texts.name_of (protocol_of table.now).home state }
+    ensures { result.now ≡ model_texts.state_name (protocol_of table.now).home state }
 {
     let home = table.home();
     state_name(&home.body, state)
@@ -48,20 +39,10 @@ fn home_state_name(table: &Table, state: u8) -> &[u8]
 
 // The name of the remotes' state with this number.
 fn remote_state_name(table: &Table, state: u8) -> &[u8]
-    ensures { result.now ≡ texts.name_of (protocol_of table.now).remote state }
+    ensures { result.now ≡ model_texts.state_name (protocol_of table.now).remote state }
 {
     let remote = table.remote();
     state_name(&remote.body, state)
-}
-
-// The name of the message with this number.
-fn message_name(messages: &[MessageInfo], message: u8) -> &[u8]
-    ensures { result.now ≡ texts.message_name messages.now message }
-{
-    match messages.get(message as usize) {
-        Some(info) => info.name.bytes(),
-        None => b"",
-    }
 }
 
 // Appends the variables of the body with these values.
@@ -99,9 +80,9 @@ fn put_home_place(
         HomePlace::Waits(waiting) => {
             let so_far = append(out, so_far, home_state_name(table, waiting.by.state));
             let so_far = append(out, so_far, b"/");
-            let so_far = append_number(out, so_far, u32::from(waiting.by.guard));
+            let so_far = append_number(out, so_far, u64::from(waiting.by.guard));
             let so_far = append(out, so_far, b">");
-            append_number(out, so_far, u32::from(waiting.on))
+            append_number(out, so_far, u64::from(waiting.on))
         }
     }
 }
@@ -138,7 +119,7 @@ fn put_held(
         so_far out.old.items result out.new.items }
 {
     let so_far = append(out, so_far, separator(first));
-    let so_far = append_number(out, so_far, u32::from(held.from));
+    let so_far = append_number(out, so_far, u64::from(held.from));
     let so_far = append(out, so_far, b":");
     put_message(alloc, messages, held.message, held.value, out, so_far)
 }
@@ -175,7 +156,7 @@ fn put_debt(
         return so_far;
     };
     let so_far = append(out, so_far, separator(first));
-    let so_far = append_number(out, so_far, u32::from(j));
+    let so_far = append_number(out, so_far, u64::from(j));
     let so_far = append(out, so_far, b":");
     append(out, so_far, message_name(messages, message))
 }
@@ -410,8 +391,8 @@ fn put_owed_list<L: Links>(machine: &Machine<L>, out: &mut Vec<u8>, so_far: Appe
 }
 
 /// Appends the line of the home: its place, its variables, the requests that it holds in order of
-/// arrival, and its debts in the order of the remotes. Nothing is appended where memory
-/// ran out before.
+/// arrival, and its debts in the order of the remotes. Nothing is appended where memory ran out
+/// before.
 pub(crate) fn put_home_line<L: Links>(
     alloc: Global,
     machine: &Machine<L>,
@@ -444,7 +425,7 @@ fn put_standing<L: Links>(
     machine.shaped();
     let table = machine.table();
     let so_far = append(out, so_far, b"  remote ");
-    let so_far = append_number(out, so_far, u32::from(j));
+    let so_far = append_number(out, so_far, u64::from(j));
     let so_far = append(out, so_far, b" ");
     let so_far = put_remote_place(table, machine.remote_place(j), out, so_far);
     put_vars(
@@ -518,8 +499,7 @@ fn put_line_of<L: Links>(
 }
 
 /// Appends the line of remote j, if there is one: its place, its variables, its slot, and the
-/// packets on its links, the first one first. Nothing is appended where memory
-/// ran out before.
+/// packets on its links, the first one first. Nothing is appended where memory ran out before.
 pub(crate) fn put_remote_line<L: Links>(
     alloc: Global,
     machine: &Machine<L>,

@@ -6,8 +6,9 @@ ghost use Rattle.run_replay.specs.StepLines as steps;
 ghost use Rattle.run_replay.specs.StepLines.{Says, step_line};
 
 use async_machine::Step;
+use proto_model::schedule_number;
 use rv_base::next_word;
-use schedule_replay::{Meaning, schedule_number};
+use schedule_replay::Meaning;
 
 // The step of `up` or `down` and the word of a number.
 fn arrival_step(way: &[u8], remote: &[u8]) -> Option<Step>

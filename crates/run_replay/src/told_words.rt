@@ -1,7 +1,7 @@
 //! What is told of a step.
 
-ghost use Rattle.std.specs.Prelude.{◌≡◌, List, option_copied, slice_get};
-ghost use Rattle.std.specs.Option.{option_map, option_and_then};
+ghost use Rattle.std.specs.Prelude.{◌≡◌};
+ghost use Rattle.std.specs.Option.{option_map};
 ghost use Rattle.proto_model.specs.Continued.{Continues};
 ghost use Rattle.proto_model.specs.Guards.{part};
 ghost use Rattle.proto_model.specs.Texts.{event_text as event_words};

@@ -50,7 +50,8 @@ decimal-LeadsWell text n fits e =
 pub parse-ReadsNumber : {E : Type 0} (text : List ℕ) (r : Result ℕ E) → LeadsWell text
     → ParsesUnsigned 64 10 text r → ReadsNumber text (2 ^ 64 - 1) (result_ok r)
 parse-ReadsNumber {E = E} text (Ok n) leads parses =
-    let h = parse_plain own {E = E} 64 text (Ok n) parses (λ plus. absurd (omega (arith, leads))) in (
+    let h = parse_plain own {E = E} 64 text (Ok n) parses
+    (λ plus. absurd (omega (arith, leads))) in (
       omega (arith, h),
       sym (decimal-digits_value own text h.0.0 h.0.1 leads.2 h.0.2)
           ∙ ap decimal (sym h.1),

@@ -3,3 +3,4 @@ pub mod DecimalText
 pub mod Lists
 pub mod BeforeComment
 pub mod FirstWord
+pub mod SameWords

@@ -1,6 +1,5 @@
 -- What a read and a write do to the bytes of what they are called on, to its counts of faults and
--- of
--- calls without memory, and what they answer.
+-- of calls without memory, and what they answer.
 use Rattle.std.specs.Prelude.{◌≡◌, Bool, true, false, ℕ, ◌+◌, ◌-◌, ◌^◌, ◌≤◌, min, List, length}
 use Rattle.std.specs.Prelude.{take, IsNone}
 use Rattle.std.specs.declared.option.Option.{Option}

@@ -1,6 +1,12 @@
 //! `rvc WORDS..`: makes a source of the file that the second word names, one of standard input and
 //! a sink of standard output, does what the words ask, and ends with the number of the status as
 //! its exit status.
+//!
+//! - `source`: a file and standard input as sources.
+//! - `sink`: standard output as a sink.
+//! - `reading`: what both sources keep of their reads.
+//! - `errors`: the count of faults, and of calls without memory.
+//! - `exit`: the exit status of a status.
 #![tactic(auto)]
 
 mod errors;

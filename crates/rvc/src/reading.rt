@@ -1,6 +1,6 @@
 //! How the reads of a source went.
 
-ghost use Rattle.std.specs.Prelude.{◌≡◌, List, ℕ, None};
+ghost use Rattle.std.specs.Prelude.{List, ℕ, None};
 ghost use Rattle.std.specs.Io.{ReadsAtMost};
 ghost use Rattle.rv_base.specs.Outside.{RisesWhere, ReadMoves, ReadEnds, read_failed, read_wants};
 

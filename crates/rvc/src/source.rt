@@ -10,7 +10,7 @@ use std::fs::File;
 use std::io;
 use std::io::{BufReader, Read, Stdin};
 
-/// How many bytes of standard input one call of the system may give.
+// How many bytes of standard input one call of the system may give.
 const STDIN_PIECE: usize = 65_536;
 
 /// A file, which is opened at the first read. Where it can't be opened, that read fails.

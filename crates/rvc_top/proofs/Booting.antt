@@ -1,16 +1,15 @@
 -- What is found in a file, part by part, is what it holds as an image, or why it is refused.
-use Rattle.std.proofs.Common.{◌≡◌, ◌≤◌, ℕ, List, [], length, Some, None, inl, inr, sym, ap}
+use Rattle.std.proofs.Common.{◌≡◌, ◌≤◌, ℕ, [], length, Some, None, inr, sym, ap}
 use Rattle.std.proofs.Common.{subst}
-use Rattle.std.proofs.Common.{◌∙◌, arith, Bool, true, false, not, Option}
+use Rattle.std.proofs.Common.{◌∙◌, Bool, true, false, not, Option}
 use Rattle.std.specs.Option.{option_map}
 use Rattle.std.proofs.lemmas.Option.{same_Some}
 use Rattle.std.specs.Str.{bytes_eq}
 use Rattle.std.proofs.lemmas.Slice.Eq.{bytes_eq-Decides}
-use Rattle.rv_base.specs.Whole.{file_limit}
 use Rattle.proto_model.specs.Tokens.{Text}
 use Rattle.proto_model.specs.Spelled.{Spells, IsFaultLine}
 use Rattle.proto_model.specs.LaidOut.{laid_out}
-use Rattle.proto_model.specs.Faults.{faults, first, first_fault, IsWellFormed}
+use Rattle.proto_model.specs.Faults.{faults, first_fault}
 use Rattle.proto_model.specs.Numbered.{CheckedProtocol, numbered}
 use Rattle.proto_model.specs.declared.protocol.Protocol.{Protocol}
 use Rattle.protocol_reader.proofs.File.{spelled_once}
@@ -20,9 +19,10 @@ use Rattle.control_store.specs.Compared.{Compares}
 use Rattle.control_store.specs.declared.heads.Head.{Head}
 use Rattle.control_store.specs.declared.comparing.Compared.{Compared}
 use Rattle.control_store.specs.declared.comparing.Compared.TheVariants as compared
-use Rattle.rvc_top.specs.Stores.{image_limit, no_head_text, no_text_text, TellsRows}
+use Rattle.rvc_top.specs.Stores.{image_limit, TellsRows}
 use Rattle.rvc_top.specs.Stores.{RowsCompare, RefusesUnbooted, HoldsImage}
 use Rattle.rvc_top.specs.Storing.{IsTextOf, TellsIf}
+use Rattle.rvc_top.proofs.Forms.{no-fault}
 use Rattle.rvc_top.proofs.StoreForms.{spells-own, booted_of, seen-holds}
 
 -- ---- the text
@@ -37,37 +37,13 @@ no_text-other text p spells other = λ q storable is.
     let same : q ≡ p = spelled_once text q p (spells-own text q storable is) spells in
     other (is ∙ ap (λ (r : Protocol). laid_out r) same)
 
-no-fault : (fs : List (ℕ × ℕ)) (f : ℕ × ℕ) → fs ≡ [] → first fs ≡ Some f → ⊥
-no-fault fs f none some = let h : first fs ≡ None = ap first none in absurd (cc)
-
 pub no_text-fault : (text : Text) (p : Protocol) (f : ℕ × ℕ) → Spells text p
     → first_fault p ≡ Some f → IsTextOf text None
 no_text-fault text p f spells fault = λ q storable is.
     let same : q ≡ p = spelled_once text q p (spells-own text q storable is) spells in
     no-fault (faults p) f (subst (λ (r : Protocol). faults r ≡ []) same storable.well_formed) fault
 
-pub text-is : (text : Text) (p : Protocol) (checked : CheckedProtocol) → length text ≤ file_limit
-    → Spells text p → text ≡ laid_out p → IsWellFormed p → checked ≡ numbered p
-    → IsTextOf text (Some checked)
-text-is text p checked short spells is well_formed same =
-    let count : length text ≡ length (laid_out p) = ap (λ (t : Text). length t) is in
-    let few : length (laid_out p) ≤ file_limit = omega arith in (
-      p,
-      record { sayable = spells.sayable; well_formed = well_formed; short = few },
-      is,
-      same,
-    )
-
 -- ---- the file
-
-pub no-head : (file why : Text) → length file ≤ image_limit
-    → ((head : Head) → Begins file head → ⊥) → why ≡ no_head_text → RefusesUnbooted file why
-no-head file why short none is = inr (short, inl (none, is))
-
-pub no-text : (file why : Text) (head : Head) → length file ≤ image_limit → Begins file head
-    → IsTextOf (text_behind head file) None → why ≡ no_text_text → RefusesUnbooted file why
-no-text file why head short begins none is =
-    inr (short, inr (head, begins, inl (λ p has. none p has.0 has.1, is)))
 
 module _ (file : Text) (head : Head) (checked : CheckedProtocol) (table : Tabled)
     (text : IsTextOf (text_behind head file) (Some checked))

@@ -87,7 +87,7 @@ module _ {State Item : Type 0} (play : Play State Item) (limits : Limits) (start
       let found = with-some (play.halts start) _ starts broken in
       told old _ (λ before e.
       ends-so play limits start found.0 found.1 schedule
-      (λ (p : Played State). Ends (IsSaid (said_at p.stop (played_text play limits p)))
+      (λ (p : Played State). Ends (IsSaid (said_at p.stop (played_text play p)))
       (fault before) before now answer)
       (ends-halted play limits start found.0 found.1 schedule (fault before) before mid now
       replayed answer
@@ -101,6 +101,6 @@ module _ {State Item : Type 0} (play : Play State Item) (limits : Limits) (start
   broken-exact schedule =
       let found = with-some (play.halts start) _ starts broken in
       ends-so play limits start found.0 found.1 schedule
-      (λ (p : Played State). IsOrFails (said_at p.stop (played_text play limits p)).status answer)
+      (λ (p : Played State). IsOrFails (said_at p.stop (played_text play p)).status answer)
       (exact-halted play limits start found.0 found.1 schedule
       (claim_text found.0 ++ play.ending start) old mid now replayed answer found.2.1 w)

@@ -64,7 +64,7 @@ fault-is a b e = cc
 line-is : (a b : ℕ) → Some a ≡ Some b → a ≡ b
 line-is a b e = cc
 
-no-fault : (fs : List (ℕ × ℕ)) (f : ℕ × ℕ) → fs ≡ [] → first fs ≡ Some f → ⊥
+pub no-fault : (fs : List (ℕ × ℕ)) (f : ℕ × ℕ) → fs ≡ [] → first fs ≡ Some f → ⊥
 no-fault fs f none some = let h : first fs ≡ None = ap first none in absurd (cc)
 
 faulty-once : (p : Protocol) (lines : List ℕ) (t u : Text) → Faulty p lines t → Faulty p lines u

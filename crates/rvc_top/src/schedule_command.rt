@@ -1,6 +1,5 @@
 //! A command that reads the protocol file and then replays a schedule, and how it is run.
 
-ghost use Rattle.std.specs.Prelude.{◌≡◌};
 ghost use Rattle.schedule_replay.specs.declared.limits.Limits.{Limits};
 ghost use Rattle.rvc_top.specs.Commands.{Replay, ReplaysSchedule};
 ghost use Rattle.rvc_top.specs.Forms.{IsForm};

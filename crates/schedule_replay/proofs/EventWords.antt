@@ -1,31 +1,20 @@
 -- What the words of a line say.
 use Rattle.std.proofs.Common.{◌≡◌, ◌≢◌, ℕ, List, [], ◌∷◌, Bool, true, false, Some, None, arith}
 use Rattle.std.proofs.Common.{decimal, refl, sym, ◌∙◌, ap, subst}
-use Rattle.std.proofs.lemmas.Slice.Eq.{bytes_eq-Decides}
 use Rattle.std.specs.Prelude.{bytes_eq, codes}
 use Rattle.std.specs.declared.option.Option.{Option}
-use Rattle.rv_base.proofs.DecimalText.{number_of-Some, number_of-decimal, decimal-LeadsWell}
+use Rattle.rv_base.proofs.DecimalText.{decimal-LeadsWell}
+use Rattle.rv_base.proofs.SameWords.{same-bytes, four}
+use Rattle.proto_model.specs.ScheduleNumbers.{number}
 use Rattle.proto_model.specs.Tokens.{Text, IsNumber}
 use Rattle.proto_model.specs.Texts.{event_words}
 use Rattle.proto_model.specs.declared.rendezvous.Event.{Event}
 use Rattle.proto_model.specs.declared.rendezvous.Event.TheVariants as event
-use Rattle.schedule_replay.specs.EventLines.{HasNumbers, number, tau_event, meeting_event, event_of}
+use Rattle.proto_model.proofs.ScheduleNumbers.{number-is, number-decimal}
+use Rattle.schedule_replay.specs.EventLines.{HasNumbers, tau_event, meeting_event, event_of}
 
 pub has-word : (word : Text) (others : List Text) → word ∷ others ≢ []
 has-word word others none = cc
-
-pub number-is : (word : Text) (n : ℕ) → number word ≡ Some n → (word ≡ decimal n) × IsNumber n
-number-is word n e = let h = number_of-Some word 99999 n e in (h.1, omega (arith, h.0))
-
-pub number-decimal : (n : ℕ) → IsNumber n → number (decimal n) ≡ Some n
-number-decimal n small = number_of-decimal 99999 n (omega arith) (omega (arith, small))
-
-pub same-bytes : (xs ys : Text) → bytes_eq xs ys ≡ true → xs ≡ ys
-same-bytes xs ys e = (bytes_eq-Decides xs ys).0 e
-
-four : {a b c d x y z w : Text} → a ≡ x → b ≡ y → c ≡ z → d ≡ w
-    → a ∷ b ∷ c ∷ d ∷ [] ≡ x ∷ y ∷ z ∷ w ∷ []
-four p q r s = cc
 
 -- the numbers that words write, and the event of them
 says-tau : (who g : Text) (home : Bool) (rule remote : Option ℕ) (e : Event)

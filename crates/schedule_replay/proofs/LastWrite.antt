@@ -105,7 +105,7 @@ module _ {State Item : Type 0} (play : Play State Item) where
     Ending-trace answer text left before now kept state h =
         let last : last_of play state answer ≡ last_text play state h.stop =
         ap (last_of play state) h.answer ∙ last-of state h.stop in
-        ap (played_text play limits) h.ends
+        ap (played_text play) h.ends
         ∙ (ap (λ blocks. blocks ++ last_text play state h.stop) (append-nil (h.gone ++ kept))
         ∙ (append_assoc h.gone kept (last_text play state h.stop)
         ∙ ap (λ more. h.gone ++ (kept ++ more)) (sym last)))

@@ -8,6 +8,7 @@ pub mod ShownParts
 pub mod ClosedLines
 pub mod LinesSoFar
 pub mod LinesRead
+pub mod WithinLimits
 pub mod PlayedSoFar
 pub mod Asked
 pub mod ReplayEnds

@@ -73,7 +73,8 @@ closed-taken r new now after (inl (goes, took)) = took.taken
 closed-taken r new now after (inr (ended, none, at_end, some, took)) = took.taken
 
 -- what is left, where the bytes are told
-pub told-rest : (before now : Option (List ℕ)) (taken text : List ℕ) → before ≡ prepend_known taken now
+pub told-rest : (before now : Option (List ℕ)) (taken text : List ℕ)
+    → before ≡ prepend_known taken now
     → before ≡ Some text → (rest : List ℕ) × (now ≡ Some rest) × (text ≡ taken ++ rest)
 told-rest before None taken text from told = absurd (cc)
 told-rest before (Some rest) taken text from told = (rest, refl, cc)

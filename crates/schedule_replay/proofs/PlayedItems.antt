@@ -7,7 +7,7 @@ use Rattle.schedule_replay.specs.Played.{unless_halted, played_from, AtEnd}
 use Rattle.schedule_replay.specs.declared.limits.Limits.{Limits}
 use Rattle.schedule_replay.specs.declared.player.Meaning.{Meaning}
 use Rattle.schedule_replay.specs.declared.player.Meaning.TheVariants.{Blank, Says, Bad}
-use Rattle.schedule_replay.specs.PlayedItems.{said_first, items_said, state_at_end, IsOfItems}
+use Rattle.schedule_replay.specs.PlayedItems.{said_first, items_said, IsOfItems}
 
 module _ {State Item : Type 0} (play : Play State Item) where
   -- what is played of what says these items, as `IsOfItems` says it of lines
@@ -77,7 +77,8 @@ module _ {State Item : Type 0} (play : Play State Item) where
   -- the lines from here on
   of_lines : (limits : Limits) (taken before : ℕ) (start : State) (lines : List (List ℕ))
       → IsOfItems play before start lines (played_lines play limits taken before start lines)
-  of_lines limits taken before start [] = (of_nothing before start [] _ refl refl (λ ends. refl)).is [] refl
+  of_lines limits taken before start [] =
+      (of_nothing before start [] _ refl refl (λ ends. refl)).is [] refl
   of_lines limits taken before start (line ∷ lines) =
       (by (nat_le limits.lines taken) (nat_lt limits.line (length line)) (play.says line)
       (λ count next. of_lines limits (taken + 1) count next lines)).is (line ∷ lines) refl

@@ -1,8 +1,7 @@
 -- The lines read so far were played, and their blocks are written or kept.
 use Rattle.std.proofs.Common.{◌≡◌, ℕ, ◌+◌, ◌<◌, ◌≤◌, List, [], ◌∷◌, ◌++◌, length, take, drop}
-use Rattle.std.proofs.Common.{true, false, nat_le, nat_lt, Some, None, inl, inr, arith, refl, sym}
+use Rattle.std.proofs.Common.{false, Some, None, inl, inr, arith, refl, sym}
 use Rattle.std.proofs.Common.{◌∙◌, ap, append_assoc, length-append}
-use Rattle.std.proofs.lemmas.Grind.{common_steps}
 use Rattle.std.proofs.lemmas.List.{append-nil, take-append-drop}
 use Rattle.std.specs.declared.option.Option.{Option}
 use Rattle.std.specs.Io.KnownBytes.{append_known}
@@ -17,6 +16,7 @@ use Rattle.schedule_replay.specs.Turns.{PutsFront, Moved, Cut}
 use Rattle.schedule_replay.specs.declared.limits.Limits.{Limits}
 use Rattle.schedule_replay.specs.declared.player.Meaning.{Meaning}
 use Rattle.schedule_replay.specs.declared.player.Meaning.TheVariants.{Blank, Says, Bad}
+use Rattle.schedule_replay.proofs.WithinLimits.{few-lines, many-lines, short-line, long-line}
 
 append_known-nil : (known : Option (List ℕ)) → append_known known [] ≡ known
 append_known-nil None = refl
@@ -24,18 +24,6 @@ append_known-nil (Some bytes) = ap (λ (more : List ℕ). Some more) (append-nil
 
 pub puts-none : (now : Option (List ℕ)) (kept : List ℕ) → PutsFront now kept now
 puts-none now kept = (0, sym (append_known-nil now))
-
-few-lines : (most before : ℕ) → before < most → nat_le most before ≡ false
-few-lines most before few = grind (arith, common_steps)
-
-many-lines : (most before : ℕ) → before ≡ most → nat_le most before ≡ true
-many-lines most before full = grind (arith, common_steps)
-
-short-line : (most : ℕ) (line : List ℕ) → length line ≤ most → nat_lt most (length line) ≡ false
-short-line most line fits = grind (arith, common_steps)
-
-long-line : (most : ℕ) (line : List ℕ) → most < length line → nat_lt most (length line) ≡ true
-long-line most line long = grind (arith, common_steps)
 
 behind-append : {State : Type 0} (front block : List ℕ) (later : Played State)
     → behind front (behind block later) ≡ behind (front ++ block) later
@@ -214,7 +202,7 @@ module _ {State Item : Type 0} (play : Play State Item) (limits : Limits) (start
     gone = h.gone;
     written = h.written;
     ends = h.follows (line ∷ more) ∙ ap (behind (h.gone ++ kept))
-        (rw (many-lines limits.lines (length done) full) refl);
+        (rw (many-lines limits.lines (length done) (omega (arith, full))) refl);
   }
 
   -- no further line
@@ -264,8 +252,8 @@ module _ {State Item : Type 0} (play : Play State Item) (limits : Limits) (start
       let rest = later.blocks ++ last_text play later.state later.stop in
       let cut : kept ≡ take part kept ++ drop part kept = sym (take-append-drop part kept) in
       let all : trace play limits start text ≡ h.gone ++ (kept ++ rest) =
-      ap (λ ls. played_text play limits (played_from play limits start ls)) lines
-      ∙ (ap (played_text play limits) (h.follows more)
+      ap (λ ls. played_text play (played_from play limits start ls)) lines
+      ∙ (ap (played_text play) (h.follows more)
       ∙ (append_assoc (h.gone ++ kept) later.blocks (last_text play later.state later.stop)
       ∙ append_assoc h.gone kept rest)) in
       record {

@@ -3,7 +3,7 @@ use Rattle.std.specs.Prelude.{◌≡◌, ◌≢◌, ℕ, List, [], ◌∷◌, Op
 use Rattle.std.specs.Prelude.{bytes_eq, codes}
 use Rattle.std.specs.Option.{option_map, option_and_then}
 use Rattle.rv_base.specs.Words.{words}
-use Rattle.rv_base.specs.Numbers.{number_of}
+use Rattle.proto_model.specs.ScheduleNumbers.{number}
 use Rattle.proto_model.specs.Tokens.{Text, IsNumber}
 use Rattle.proto_model.specs.Texts.{event_words}
 use Rattle.proto_model.specs.declared.rendezvous.Event.{Event}
@@ -25,10 +25,6 @@ abbrev pub Says : List Text → Meaning Event → Type 0
 Says ws meaning.Blank = ws ≡ []
 Says ws (meaning.Says e) = (ws ≡ event_words e) × HasNumbers e
 Says ws meaning.Bad = (ws ≢ []) × ((e : Event) → HasNumbers e → ws ≢ event_words e)
-
--- The number from 0 to 99,999 whose decimal text the word is.
-abbrev pub number : Text → Option ℕ
-number word = number_of word 99999
 
 -- The event of `tau` and these two words: the home, or the remote with this number, takes the local
 -- step of the guard with this number.

@@ -74,6 +74,11 @@ module _ {State Item : Type 0} (play : Play State Item) where
   last_text state TooMany = []
   last_text state (Halted lines claim) = claim_text claim ++ play.ending state
 
+  -- What is written of a schedule: the blocks of the items before its end, and the last text. Of a
+  -- schedule that is refused, an error text follows, which is not part of it.
+  abbrev pub played_text : Played State → List ℕ
+  played_text all = all.blocks ++ last_text all.state all.stop
+
   module _ (limits : Limits) where
     -- The lines that follow so many others and so many items are played from this state. A schedule
     -- ends with too many lines where as many as it may have stand before a further one. It is
@@ -91,11 +96,6 @@ module _ {State Item : Type 0} (play : Play State Item) where
     abbrev pub played_from : State → List (List ℕ) → Played State
     played_from start lines =
         unless_halted (play.halts start) 0 start (played_lines 0 0 start lines)
-
-    -- What is written of a schedule: the blocks of the items before its end, and the last text. Of
-    -- a schedule that is refused, an error text follows, which is not part of it.
-    abbrev pub played_text : Played State → List ℕ
-    played_text all = all.blocks ++ last_text all.state all.stop
 
     -- A schedule with this text is played from the start.
     abbrev pub played : State → List ℕ → Played State

@@ -6,22 +6,8 @@ ghost use Rattle.schedule_replay.specs.EventLines as events;
 ghost use Rattle.schedule_replay.specs.EventLines.{Says, event_line};
 
 use crate::player::Meaning;
-use proto_model::Event;
-use rv_base::{next_word, read_number};
-
-// The greatest number that a line can write.
-const NUMBER_LIMIT: u64 = 99_999;
-
-/// The number from 0 to 99,999 whose decimal text the word is, without leading zeros. `None` where
-/// it is that of no such number. Takes no memory.
-pub fn schedule_number(word: &[u8]) -> Option<u32>
-    ensures { result ≡ events.number word.now }
-{
-    match read_number(word, NUMBER_LIMIT) {
-        Some(number) => Some(number as u32),
-        None => None,
-    }
-}
+use proto_model::{Event, schedule_number};
+use rv_base::next_word;
 
 // The event of `tau` and these two words.
 fn tau_event(who: &[u8], guard: &[u8]) -> Option<Event>

@@ -35,7 +35,7 @@ pub fn put_message(
     out: &mut Vec<u8>,
     so_far: Appending,
 ) -> Appending
-    ensures { Continues (texts.numbered_message messages.now message value)
+    ensures { Continues (texts.message_by_number messages.now message value)
         so_far out.old.items result out.new.items }
 {
     match messages.get(message as usize) {

@@ -25,7 +25,7 @@ mod replaying;
 mod rv_player;
 mod rv_trace;
 
-pub use events::{leading_event, read_event_line, schedule_number};
+pub use events::{leading_event, read_event_line};
 pub use given_message::{put_given, put_message};
 pub use limits::{Limits, SCHEDULE_LIMITS};
 pub use lines::{Lines, NextLine};

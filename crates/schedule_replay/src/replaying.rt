@@ -18,8 +18,7 @@ ghost use Rattle.schedule_replay.specs.Turns.{EndsAtStart};
 use crate::limits::Limits;
 use crate::lines::{Lines, NextLine};
 use crate::player::{Meaning, Player};
-use itoa::Buffer;
-use rv_base::{NoMemory, Sink, Source, Wrote, write_whole};
+use rv_base::{NoMemory, Sink, Source, Wrote, put_number, write_whole};
 use std::alloc::Global;
 
 /// How a replay ends.
@@ -124,7 +123,7 @@ fn put_block<P: Player>(
     ensures tells { OnOk result (kept.new.items ≡ kept.old.items
         ++ numbered_block P.play played player.old item) }
 {
-    kept.extend_from_slice(Buffer::new().format(played + 1).as_bytes())?;
+    put_number(alloc, u64::from(played + 1), kept)?;
     kept.push(b' ')?;
     player.play(alloc, item, kept)
 }
@@ -214,7 +213,7 @@ fn put_last<P: Player>(
         Replayed::Done => player.finish(alloc, kept),
         Replayed::ClaimBroken(claim) => {
             kept.extend_from_slice(b"claim ")?;
-            kept.extend_from_slice(Buffer::new().format(claim).as_bytes())?;
+            put_number(alloc, u64::from(claim), kept)?;
             kept.extend_from_slice(b" broken\n")?;
             player.finish(alloc, kept)
         }

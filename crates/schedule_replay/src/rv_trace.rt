@@ -18,7 +18,7 @@ use std::alloc::Global;
 /// Appends the rendezvous line of the home, with its LF. After `NoMemory` the vector is as before
 /// followed by a front of the line.
 pub fn put_home_line(alloc: Global, machine: &RvMachine, out: &mut Vec<u8>) -> Result<(), NoMemory>
-    ensures { OnOk result (out.new.items ≡ out.old.items ++ texts.home_line machine.now) }
+    ensures { Appends (texts.home_line machine.now) result out.old.items out.new.items }
 {
     let home = &machine.config().home;
     rv_line(alloc, machine.protocol().home(), home, None, out)
@@ -40,7 +40,7 @@ pub fn put_remote_line(
     j: u32,
     out: &mut Vec<u8>,
 ) -> Result<(), NoMemory>
-    ensures { OnOk result (out.new.items ≡ out.old.items ++ texts.remote_line machine.now j) }
+    ensures { Appends (texts.remote_line machine.now j) result out.old.items out.new.items }
 {
     let Some(part) = remote_at(machine, j) else {
         return Ok(());

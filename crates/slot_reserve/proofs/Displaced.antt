@@ -34,12 +34,14 @@ OneOfEach-front (request ∷ front) last each =
     let rest = OneOfEach-front front last each.1 in
     ((others.0, rest.0), (λ same. others.1 (sym same), rest.1))
 
-front-has_none : (from : ℕ) (held : List Held) (last : Held) → last_of held ≡ Some last →
+-- of a remote of which none is held, none is in front
+pub front-has_none : (from : ℕ) (held : List Held) (last : Held) → last_of held ≡ Some last →
     HasNone from held → HasNone from (front_of held)
 front-has_none from held last e none =
     (HasNone-front from (front_of held) last (subst (HasNone from) (held-front held last e) none)).0
 
-front-each : (held : List Held) (last : Held) → last_of held ≡ Some last →
+-- where one is held of each at most, so it is in front, and none of the last one's remote
+pub front-each : (held : List Held) (last : Held) → last_of held ≡ Some last →
     OneOfEach held → OneOfEach (front_of held) × HasNone last.from (front_of held)
 front-each held last e each =
     OneOfEach-front (front_of held) last (subst OneOfEach (held-front held last e) each)

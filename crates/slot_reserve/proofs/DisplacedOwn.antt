@@ -1,34 +1,10 @@
 -- The last held request, and the one that displaces it, as the first of their remotes.
-use Rattle.std.proofs.Common.{◌≡◌, ◌≢◌, ◌∷◌, ◌++◌, [], ℕ, List, Some, None, ap, sym, subst, ◌∙◌}
+use Rattle.std.proofs.Common.{◌≡◌, ◌≢◌, ℕ, List, Some, None, ap, sym, subst, ◌∙◌}
 use Rattle.std.proofs.lemmas.Option.{none-some}
 use Rattle.slot_reserve.specs.declared.held.Held.{Held}
 use Rattle.slot_reserve.specs.Requests.{first_of, last_of, displaced, HasNone, OneOfEach}
-use Rattle.slot_reserve.proofs.Displaced.{front_of, held-front}
+use Rattle.slot_reserve.proofs.Displaced.{front_of, held-front, front-has_none, front-each}
 use Rattle.slot_reserve.proofs.HeldAfter.{first_of-push_own}
-
-HasNone-front : (from : ℕ) (front : List Held) (last : Held) →
-    HasNone from (front ++ last ∷ []) → HasNone from front × (last.from ≢ from)
-HasNone-front from [] last none = (tt, none.0)
-HasNone-front from (request ∷ front) last none =
-    let rest = HasNone-front from front last none.1 in ((none.0, rest.0), rest.1)
-
-OneOfEach-front : (front : List Held) (last : Held) →
-    OneOfEach (front ++ last ∷ []) → OneOfEach front × HasNone last.from front
-OneOfEach-front [] last each = (tt, tt)
-OneOfEach-front (request ∷ front) last each =
-    let others = HasNone-front request.from front last each.0 in
-    let rest = OneOfEach-front front last each.1 in
-    ((others.0, rest.0), (λ same. others.1 (sym same), rest.1))
-
-front-has_none : (from : ℕ) (held : List Held) (last : Held) → last_of held ≡ Some last →
-    HasNone from held → HasNone from (front_of held)
-front-has_none from held last e none =
-    (HasNone-front from (front_of held) last (subst (HasNone from) (held-front held last e) none)).0
-
-front-each : (held : List Held) (last : Held) → last_of held ≡ Some last →
-    OneOfEach held → OneOfEach (front_of held) × HasNone last.from (front_of held)
-front-each held last e each =
-    OneOfEach-front (front_of held) last (subst OneOfEach (held-front held last e) each)
 
 -- where one is held of each at most, the last one is the one of its remote
 pub first_of-last : (held : List Held) (last : Held) → last_of held ≡ Some last →

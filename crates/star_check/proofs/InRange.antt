@@ -1,6 +1,5 @@
 -- Where the names of a guard are declared and its numbers are small, all that stands in its
--- numbered
--- form is in range.
+-- numbered form is in range.
 use Rattle.std.proofs.Common.{◌≡◌, ℕ, ◌<◌, true, false, ◌&&◌, ◌||◌, List, map, length, ap, arith}
 use Rattle.std.proofs.Common.{Option, Some, None, unwrap_or}
 use Rattle.std.specs.Option.{option_map}

@@ -224,7 +224,8 @@ module _ (s : Side) (messages : List Message) (p : Process) (clean : CleanProces
         (last_test_fails _ unknown clean.start) in
         record {
           few_vars = rw (length-map p.vars numbered_declaration) few_vars;
-          few_states = rw (length-map p.states (numbered_state messages p.vars p.states)) few_states;
+          few_states = rw (length-map p.states (numbered_state messages p.vars p.states))
+              few_states;
           short_names = AllByRecursion-map (λ v. IsShortName v.name) numbered_declaration p.vars
               (λ k v e. short_declared 16 (var_names p.vars) k v.name _ (var_at k v e));
           vars = AllByRecursion-map IsProperVar numbered_declaration p.vars

@@ -1,12 +1,10 @@
 -- The set of the states that a list of names means, name by name, and that its states are in range.
-use Rattle.std.proofs.Common.{◌≡◌, ◌≢◌, ℕ, ◌+◌, ◌*◌, ◌%◌, ◌^◌, ◌<◌, Bool, true, false, ◌&&◌, ◌||◌}
+use Rattle.std.proofs.Common.{◌≡◌, ℕ, ◌+◌, ◌*◌, ◌%◌, ◌^◌, ◌<◌, Bool, true, false, ◌&&◌, ◌||◌}
 use Rattle.std.proofs.Common.{◌==◌, nat_lt}
 use Rattle.std.proofs.Common.{List, [], ◌∷◌, length, get_or, take, map, refl, sym, ap, ◌∙◌, arith}
 use Rattle.std.proofs.Common.{inl, inr, lit<, bit_or}
-use Rattle.std.specs.Int.{bit_at}
 use Rattle.std.specs.List.{list_any, list_all}
-use Rattle.std.proofs.lemmas.Nat.Bits.{bit_at-lt, same_from_bits}
-use Rattle.std.proofs.lemmas.Bool.{cases_eq, eq-eqb, ne_eqb, eqb-true, eqb-false, lt-ltb, and_parts}
+use Rattle.std.proofs.lemmas.Bool.{cases_eq, eq-eqb, ne_eqb, eqb-true, lt-ltb, and_parts}
 use Rattle.std.proofs.lemmas.Bool.{and_right, or_right, cond-true}
 use Rattle.std.proofs.lemmas.List.Folds.{list_any_more}
 use Rattle.proto_model.specs.Tokens.{Text}
@@ -16,24 +14,9 @@ use Rattle.proto_model.specs.Numbered.{place_or_zero, state_set}
 use Rattle.proto_model.specs.Proper.{AreStatesOf}
 use Rattle.proto_model.specs.declared.protocol.State.{State}
 use Rattle.proto_model.proofs.NumberBits.{has_number-numbers_below, has_number-above, bit-small}
+use Rattle.proto_model.proofs.NumberBits.{same_members}
 use Rattle.proto_model.proofs.NumberSets.{has_number-with}
 use Rattle.star_check.proofs.InRange.{place_in_range}
-
-same_bit : (a b : ℕ) → a < 2 → b < 2 → (a == 1) ≡ (b == 1) → a ≡ b
-same_bit a b small_a small_b same = by (b == 1) refl
-  where
-    by : (t : Bool) → (b == 1) ≡ t → a ≡ b
-    by true is = eqb-true a 1 (same ∙ is) ∙ sym (eqb-true b 1 is)
-    by false is =
-        let a_other : a ≢ 1 = eqb-false a 1 (same ∙ is) in
-        let b_other : b ≢ 1 = eqb-false b 1 is in
-        omega arith
-
--- sets with the same members are the same
-same_members : (a b : ℕ) → ((s : ℕ) → has_number a s ≡ has_number b s) → a ≡ b
-same_members a b same =
-    same_from_bits a b
-    (λ s. same_bit (bit_at a s) (bit_at b s) (bit_at-lt a s) (bit_at-lt b s) (same s))
 
 or-false : (b : Bool) → (b || false) ≡ b
 or-false true = refl

@@ -13,7 +13,7 @@ const SAME_STEPS: [&[u8]; 3] = [
     b"\tremote  0 tau\t0//up 0\n \t\r\n//home fly\n  remote 0 send\r",
 ];
 
-// The end, where remote 0 waits.
+/// The end, where remote 0 waits.
 pub fn waits() -> &'static [u8] {
     b"\
 end

@@ -4,7 +4,7 @@ use crate::stepped::{ONE_LEAN, TWO_LEAN};
 use memory_runs::{MIGRATORY, Wrong, schedule_ends};
 use rvc_top::Status;
 
-// Remote 0 asks for the line.
+/// Remote 0 asks for the line.
 pub fn asks() -> &'static [u8] {
     b"\
 remote 0 tau 0
@@ -12,7 +12,7 @@ remote 0 send
 "
 }
 
-// The blocks of these two steps.
+/// The blocks of these two steps.
 pub fn asked() -> &'static [u8] {
     b"\
 1 remote 0 tau 0: tau 0 0
@@ -22,7 +22,7 @@ pub fn asked() -> &'static [u8] {
 "
 }
 
-// The home takes the request and sends the line.
+/// The home takes the request and sends the line.
 pub fn grants() -> &'static [u8] {
     b"\
 up 0
@@ -31,7 +31,7 @@ home send 0 0
 "
 }
 
-// The blocks of these three steps, in mode lean.
+/// The blocks of these three steps, in mode lean.
 pub fn granted() -> &'static [u8] {
     b"\
 3 up 0: stutter
@@ -46,14 +46,14 @@ pub fn granted() -> &'static [u8] {
 "
 }
 
-// The line comes to remote 0.
+/// The line comes to remote 0.
 pub fn arrives() -> &'static [u8] {
     b"\
 down 0
 "
 }
 
-// The block of this step.
+/// The block of this step.
 pub fn arrived() -> &'static [u8] {
     b"\
 6 down 0: stutter
@@ -61,7 +61,7 @@ pub fn arrived() -> &'static [u8] {
 "
 }
 
-// The end, where remote 0 has the line.
+/// The end, where remote 0 has the line.
 pub fn stands() -> &'static [u8] {
     b"\
 end
@@ -127,7 +127,7 @@ fn each_request_has_its_ack_in_mode_plain(rt: HostRuntime) -> Result<(), Wrong> 
     )
 }
 
-// The end, where one remote stands as at the start.
+/// The end, where one remote stands as at the start.
 pub fn all_idle() -> &'static [u8] {
     b"\
 end

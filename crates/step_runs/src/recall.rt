@@ -88,7 +88,7 @@ abstract
   remote 1 W d=0
 ";
 
-// That two remotes play the crossing over this file.
+/// That two remotes play the crossing over this file.
 pub fn requests_cross_over(alloc: Global, file: &[&[u8]]) -> Result<(), Wrong> {
     ends_behind_recall(alloc, &TWO_LEAN, file, CROSSES, CROSSED)
 }

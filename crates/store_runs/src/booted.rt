@@ -7,7 +7,7 @@ use crate::words::BOOT;
 use memory_runs::{MIGRATORY, MIGRATORY_2, STILL, Wrong, migratory_body, schedule_ends};
 use rvc_top::Status;
 
-// The store of `still`, whose one remote gets nothing.
+/// The store of `still`, whose one remote gets nothing.
 pub const STANDS: &[u8] = b"\
 1 up 0: refused
 end

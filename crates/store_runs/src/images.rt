@@ -1,7 +1,7 @@
 //! Control stores, byte by byte, and the parts of which tests put others together.
 
-// The head of the store of `still` in mode lean: its text has 90 bytes, the home no row and a
-// remote one.
+/// The head of the store of `still` in mode lean: its text has 90 bytes, the home no row and a
+/// remote one.
 pub const STILL_HEAD: &[u8] = b"\
 \x52\x56\x43\x49\x4d\x47\x30\x31\
 \x00\x00\x00\x00\x00\x00\x00\x01\
@@ -9,12 +9,12 @@ pub const STILL_HEAD: &[u8] = b"\
 \x00\x00\x00\x00\x00\x00\x00\x00\
 \x00\x00\x00\x00\x00\x00\x00\x01";
 
-// The one row of `still`.
+/// The one row of `still`.
 pub const STILL_ROW: &[u8] = b"\
 \x00\x00\x00\x05\x00\x03\x00\x00\x00\x00\x00\x00\x00\x00\x00\x00";
 
-// The head of the store of `migratory` in mode lean: its text has 830 bytes, the home 14 rows and a
-// remote 18.
+/// The head of the store of `migratory` in mode lean: its text has 830 bytes, the home 14 rows and
+/// a remote 18.
 pub const LEAN_HEAD: &[u8] = b"\
 \x52\x56\x43\x49\x4d\x47\x30\x31\
 \x00\x00\x00\x00\x00\x00\x00\x01\
@@ -22,7 +22,7 @@ pub const LEAN_HEAD: &[u8] = b"\
 \x00\x00\x00\x00\x00\x00\x00\x0e\
 \x00\x00\x00\x00\x00\x00\x00\x12";
 
-// The rows of `migratory` in mode lean.
+/// The rows of `migratory` in mode lean.
 pub const LEAN_ROWS: &[u8] = b"\
 \x00\x00\x00\x03\x00\x05\x01\x01\x00\x00\x00\x00\x00\x01\x00\x00\
 \x00\x01\x00\x01\x00\x01\x01\x00\x00\x00\x00\x00\x01\x01\x00\x00\
@@ -57,7 +57,7 @@ pub const LEAN_ROWS: &[u8] = b"\
 \x01\x05\x00\x07\x00\x00\x00\x00\x00\x00\x00\x00\x00\x05\x00\x00\
 \x02\x05\x00\x01\x00\x04\x04\x01\x05\x00\x00\x00\x00\x00\x00\x00";
 
-// The same in mode plain, with 13 rows and 17.
+/// The same in mode plain, with 13 rows and 17.
 pub const PLAIN_HEAD: &[u8] = b"\
 \x52\x56\x43\x49\x4d\x47\x30\x31\
 \x00\x00\x00\x00\x00\x00\x00\x00\
@@ -65,7 +65,7 @@ pub const PLAIN_HEAD: &[u8] = b"\
 \x00\x00\x00\x00\x00\x00\x00\x0d\
 \x00\x00\x00\x00\x00\x00\x00\x11";
 
-// The rows of `migratory` in mode plain.
+/// The rows of `migratory` in mode plain.
 pub const PLAIN_ROWS: &[u8] = b"\
 \x00\x00\x00\x03\x00\x02\x00\x01\x00\x00\x00\x00\x00\x01\x00\x00\
 \x00\x01\x00\x01\x00\x01\x01\x00\x00\x00\x00\x00\x01\x01\x00\x00\
@@ -98,7 +98,7 @@ pub const PLAIN_ROWS: &[u8] = b"\
 \x01\x05\x00\x06\x00\x00\x00\x01\x05\x00\x00\x00\x00\x00\x00\x00\
 \x01\x05\x00\x07\x00\x00\x00\x00\x00\x00\x00\x00\x00\x05\x00\x00";
 
-// The head in mode lean of `migratory` with a claim, whose text has 861 bytes.
+/// The head in mode lean of `migratory` with a claim, whose text has 861 bytes.
 pub const CLAIMED_HEAD: &[u8] = b"\
 \x52\x56\x43\x49\x4d\x47\x30\x31\
 \x00\x00\x00\x00\x00\x00\x00\x01\

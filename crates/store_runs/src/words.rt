@@ -3,7 +3,7 @@
 use memory_runs::{Wrong, ends, over_nothing};
 use rvc_top::Status;
 
-// The words of `boot` with one remote and two slots.
+/// The words of `boot` with one remote and two slots.
 pub const BOOT: [&str; 4] = ["boot", "p", "1", "2"];
 
 const NO_FORMS: [&[&str]; 16] = [

@@ -1,9 +1,8 @@
 -- The five texts of a row: where it stands, what makes it move, what it puts, what it completes,
 -- and where it stands then. The table's text and its JSON both show a row by these.
-use Rattle.std.specs.Prelude.{ℕ, List, [], ◌++◌, slice_get, codes, decimal}
-use Rattle.std.specs.Option.{option_map_or}
+use Rattle.std.specs.Prelude.{List, ◌++◌, codes, decimal}
 use Rattle.proto_model.specs.Tokens.{Text}
-use Rattle.proto_model.specs.declared.numbered.StateInfo.{StateInfo}
+use Rattle.proto_model.specs.Texts.{state_name, message_name}
 use Rattle.proto_model.specs.declared.numbered.MessageInfo.{MessageInfo}
 use Rattle.proto_model.specs.declared.numbered.Body.{Body}
 use Rattle.controller_table.specs.declared.rows.GuardId.{GuardId}
@@ -17,17 +16,6 @@ use Rattle.controller_table.specs.declared.rows.Puts.{Puts}
 use Rattle.controller_table.specs.declared.rows.Puts.TheVariants as puts
 use Rattle.controller_table.specs.declared.rows.Does.{Does}
 use Rattle.controller_table.specs.declared.rows.Does.TheVariants as does
-
--- the name of the state at this place; no text where there is none, which a sound table has nowhere
-abbrev pub state_name : Body → ℕ → Text
-state_name body state =
-    option_map_or (λ (info : StateInfo). info.name) (slice_get body.states state) []
-
--- the name of the message at this place; no text where there is none, which a sound table has
--- nowhere
-abbrev pub message_name : List MessageInfo → ℕ → Text
-message_name messages m =
-    option_map_or (λ (info : MessageInfo). info.name) (slice_get messages m) []
 
 -- a guard: the name of its state, `/` and its number within the state
 abbrev pub guard_text : Body → GuardId → Text

@@ -6,13 +6,14 @@ use Rattle.serde_json.specs.Data.{Data, null, boolean, string, array, object, no
 use Rattle.serde_json.specs.View.{items_of}
 use Rattle.serde_json.specs.Written.{compact_text}
 use Rattle.proto_model.specs.Tokens.{Text}
+use Rattle.proto_model.specs.Texts.{message_name}
 use Rattle.proto_model.specs.declared.numbered.MessageInfo.{MessageInfo}
 use Rattle.proto_model.specs.declared.numbered.Body.{Body}
 use Rattle.controller_table.specs.Rows.{reply_at}
 use Rattle.controller_table.specs.Sound.{Tabled}
 use Rattle.controller_table.specs.declared.rows.Row.{Row}
 use Rattle.controller_table.specs.declared.controller.Controller.{Controller}
-use Rattle.table_printer.specs.RowText.{message_name, place_text, trigger_text, puts_text}
+use Rattle.table_printer.specs.RowText.{place_text, trigger_text, puts_text}
 use Rattle.table_printer.specs.RowText.{does_text}
 use Rattle.table_printer.specs.TableText.{mode_text, carries_text}
 

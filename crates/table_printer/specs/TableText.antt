@@ -5,6 +5,7 @@ use Rattle.std.specs.Prelude.{decimal}
 use Rattle.std.specs.List.{flat_map}
 use Rattle.rv_base.specs.Lists.{flat_from}
 use Rattle.proto_model.specs.Tokens.{Text}
+use Rattle.proto_model.specs.Texts.{message_name}
 use Rattle.proto_model.specs.declared.mode.Mode.{Mode}
 use Rattle.proto_model.specs.declared.mode.Mode.TheVariants.{Plain, Lean}
 use Rattle.proto_model.specs.declared.protocol.Carry.{Carry}
@@ -15,7 +16,7 @@ use Rattle.controller_table.specs.Rows.{reply_at}
 use Rattle.controller_table.specs.Sound.{Tabled}
 use Rattle.controller_table.specs.declared.rows.Row.{Row}
 use Rattle.controller_table.specs.declared.controller.Controller.{Controller}
-use Rattle.table_printer.specs.RowText.{message_name, place_text, trigger_text, puts_text}
+use Rattle.table_printer.specs.RowText.{place_text, trigger_text, puts_text}
 use Rattle.table_printer.specs.RowText.{does_text}
 
 -- the name of the mode

@@ -5,11 +5,11 @@ ghost use Rattle.rv_base.specs.Appended.{Appends};
 ghost use Rattle.serde_json.specs.View.{view};
 ghost use Rattle.table_printer.specs.TableJson as json;
 
-use crate::names::{message_name, name_text};
+use crate::names::name_text;
 use crate::rows::{does_text, place_text, puts_text, trigger_text};
 use crate::text::{carries_text, mode_text, reply_at};
 use controller_table::{Controller, Row, Table};
-use proto_model::{Body, MessageInfo};
+use proto_model::{Body, MessageInfo, message_name};
 use rv_base::NoMemory;
 use serde_json::{Value, json};
 use std::alloc::{AllocError, Global};
@@ -56,7 +56,7 @@ fn reply_value(
 {
     match reply {
         None => Ok(Value::Null),
-        Some(reply) => Value::try_from_str(alloc, message_name(messages, reply)),
+        Some(reply) => Value::try_from_str(alloc, name_text(message_name(messages, reply))),
     }
 }
 
@@ -72,7 +72,7 @@ fn message_value(
         info.now) }
 {
     let carries = Value::String(carries_text(alloc, info.carries)?);
-    let name = name_text(&info.name);
+    let name = name_text(info.name.bytes());
     let reply = reply_value(alloc, messages, reply_at(replies, message))?;
     let up = info.up;
     json!(in alloc; {"carries": carries, "name": name, "reply": reply, "up": up})
@@ -100,7 +100,7 @@ fn table_value(alloc: Global, table: &Table) -> Result<Value, AllocError>
     let home = rows_value(alloc, table.messages(), table.home())?;
     let messages = messages_value(alloc, table.messages(), table.replies())?;
     let mode = mode_text(table.mode());
-    let name = name_text(table.name());
+    let name = name_text(table.name().bytes());
     let remote = rows_value(alloc, table.messages(), table.remote())?;
     json!(in alloc; {
         "home": home, "messages": messages, "mode": mode, "name": name, "remote": remote

@@ -1,6 +1,6 @@
 //! The two forms in which a table is written: as text, and as JSON.
 //!
-//! - `names`: the names of states and messages, by their places.
+//! - `names`: names as text.
 //! - `rows`: the five texts of a row, which both forms show.
 //! - `text`: the table as lines of text.
 //! - `json`: the table as JSON.

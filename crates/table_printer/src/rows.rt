@@ -3,16 +3,16 @@
 ghost use Rattle.std.specs.Prelude.{◌≡◌, string_bytes, IfOk};
 ghost use Rattle.table_printer.specs.RowText as texts;
 
-use crate::names::{message_name, state_name};
+use crate::names::name_text;
 use controller_table::{Does, GuardId, Place, Puts, Trigger};
-use proto_model::{Body, MessageInfo};
+use proto_model::{Body, MessageInfo, message_name, state_name};
 use std::alloc::{AllocError, Global};
 
 // The guard: the name of its state, `/` and its number.
 fn guard_text(alloc: Global, body: &Body, guard: GuardId) -> Result<String, AllocError>
     ensures { IfOk result (λ t. string_bytes t ≡ texts.guard_text body.now guard) }
 {
-    let state = state_name(body, guard.state);
+    let state = name_text(state_name(body, guard.state));
     let number = guard.guard;
     format!(in alloc; "{state}/{number}")
 }
@@ -22,7 +22,7 @@ pub(crate) fn place_text(alloc: Global, body: &Body, place: Place) -> Result<Str
     ensures { IfOk result (λ t. string_bytes t ≡ texts.place_text body.now place) }
 {
     match place {
-        Place::Comm(state) => String::from_str(alloc, state_name(body, state)),
+        Place::Comm(state) => String::from_str(alloc, name_text(state_name(body, state))),
         Place::Trans(guard) => {
             let mut text = guard_text(alloc, body, guard)?;
             text.push_str("*")?;
@@ -54,7 +54,7 @@ pub(crate) fn trigger_text(
         Trigger::GotAck => String::from_str(alloc, "got ack"),
         Trigger::GotNack => String::from_str(alloc, "got nack"),
         Trigger::GotReply(message) => {
-            let name = message_name(messages, message);
+            let name = name_text(message_name(messages, message));
             format!(in alloc; "got reply {name}")
         }
         Trigger::GotRequest => String::from_str(alloc, "got request"),
@@ -72,17 +72,17 @@ pub(crate) fn puts_text(
     match puts {
         Puts::Nothing => String::from_str(alloc, "nothing"),
         Puts::Request(message) => {
-            let name = message_name(messages, message);
+            let name = name_text(message_name(messages, message));
             format!(in alloc; "request {name}")
         }
         Puts::Ack => String::from_str(alloc, "ack"),
         Puts::Nack => String::from_str(alloc, "nack"),
         Puts::Reply(message) => {
-            let name = message_name(messages, message);
+            let name = name_text(message_name(messages, message));
             format!(in alloc; "reply {name}")
         }
         Puts::Owe(message) => {
-            let name = message_name(messages, message);
+            let name = name_text(message_name(messages, message));
             format!(in alloc; "owe {name}")
         }
     }

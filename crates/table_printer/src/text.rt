@@ -5,10 +5,10 @@ ghost use Rattle.rv_base.specs.Appended.{Appends};
 ghost use Rattle.controller_table.specs.Rows.{reply_at as the_reply_at};
 ghost use Rattle.table_printer.specs.TableText as texts;
 
-use crate::names::{message_name, name_text};
+use crate::names::name_text;
 use crate::rows::{does_text, place_text, puts_text, trigger_text};
 use controller_table::{Controller, Row, Table};
-use proto_model::{Body, Carry, MessageInfo, Mode, Name};
+use proto_model::{Body, Carry, MessageInfo, Mode, Name, message_name};
 use rv_base::NoMemory;
 use std::alloc::{AllocError, Global};
 
@@ -75,7 +75,7 @@ fn reply_text(
     match reply {
         None => Ok(String::new(alloc)),
         Some(reply) => {
-            let name = message_name(messages, reply);
+            let name = name_text(message_name(messages, reply));
             format!(in alloc; " reply {name}")
         }
     }
@@ -92,7 +92,7 @@ fn message_line(
     ensures { IfOk result (λ t. string_bytes t ≡ texts.message_line messages.now replies.now message
         info.now) }
 {
-    let name = name_text(&info.name);
+    let name = name_text(info.name.bytes());
     let way = way_text(info.up);
     let carries = type_text(alloc, info.carries)?;
     let reply = reply_text(alloc, messages, reply_at(replies, message))?;
@@ -150,7 +150,7 @@ fn row_lines(
 fn first_line(alloc: Global, name: &Name, mode: Mode) -> Result<String, AllocError>
     ensures { IfOk result (λ t. string_bytes t ≡ texts.first_line name.now mode) }
 {
-    let name = name_text(name);
+    let name = name_text(name.bytes());
     let mode = mode_text(mode);
     format!(in alloc; "table {name} {mode}\n")
 }

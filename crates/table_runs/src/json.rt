@@ -3,6 +3,7 @@
 use memory_runs::{HOLD, STILL_LINE, Wrong, ends, over_file};
 use rvc_top::Status;
 
+/// The JSON of `STILL_LINE` in mode lean.
 pub const STILL_LEAN: &[u8] = b"{\"home\":[],\
 \"messages\":[],\
 \"mode\":\"lean\",\"name\":\"still\",\"remote\":[\

@@ -46,6 +46,7 @@ remote
   D/0! send 0: reply id, D/0, I
 ";
 
+/// The table of `SMALL` in mode plain.
 pub const SMALL_ROWS: &[u8] = b"\
 table small plain
 message a up

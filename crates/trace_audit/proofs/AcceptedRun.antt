@@ -27,7 +27,8 @@ use Rattle.trace_audit.specs.PrintedRun.{RvRun, IsIndented, TellsOf, PrintsSteps
 use Rattle.trace_audit.specs.declared.auditor.Section.{Section}
 use Rattle.trace_audit.specs.declared.auditor.Section.TheVariants.{Steps, States, Abstraction}
 use Rattle.trace_audit.proofs.ClosedAndOpen.{joined-closed_open, closed_lines-clear}
-use Rattle.trace_audit.proofs.Heard.{same-bytes, HearsWords, StepsLineIs}
+use Rattle.rv_base.proofs.SameWords.{same-bytes}
+use Rattle.trace_audit.proofs.Heard.{HearsWords, StepsLineIs}
 use Rattle.trace_audit.proofs.Heard.{StatesLineIs, LineIs, line-is}
 use Rattle.trace_audit.proofs.StepLines.{told_of-tells, indented-is}
 use Rattle.trace_audit.proofs.ShownTexts.{texts_from, line-shown, all-texts}

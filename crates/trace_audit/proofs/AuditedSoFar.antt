@@ -1,30 +1,18 @@
 -- How far a trace was audited after some lines, and what further lines make of it.
-use Rattle.std.proofs.Common.{◌≡◌, ◌≢◌, ℕ, ◌+◌, ◌<◌, ◌≤◌, List, [], ◌∷◌, ◌++◌, length, true}
-use Rattle.std.proofs.Common.{false, nat_le, nat_lt, Some, None, Ok, Err, inl, inr, arith, refl}
+use Rattle.std.proofs.Common.{◌≡◌, ◌≢◌, ℕ, ◌+◌, ◌<◌, ◌≤◌, List, [], ◌∷◌, ◌++◌, length}
+use Rattle.std.proofs.Common.{Some, None, Ok, Err, inl, inr, arith, refl}
 use Rattle.std.proofs.Common.{sym}
 use Rattle.std.proofs.Common.{◌∙◌, ap}
-use Rattle.std.proofs.lemmas.Grind.{common_steps}
 use Rattle.std.specs.declared.option.Option.{Option}
 use Rattle.proto_model.specs.Tokens.{Text}
 use Rattle.schedule_replay.specs.TextLines.{lines_of, closed_lines, open_part}
 use Rattle.schedule_replay.specs.declared.limits.Limits.{Limits}
+use Rattle.schedule_replay.proofs.WithinLimits.{few-lines, many-lines, short-line, long-line}
 use Rattle.trace_audit.specs.Auditing.{Auditing, audit_line}
 use Rattle.trace_audit.specs.AuditedTrace.{RefusedAt, line_then, concluded}
 use Rattle.trace_audit.specs.AuditedTrace.{line_within, after_lines, audited_from}
 use Rattle.trace_audit.proofs.ClosedAndOpen.{last_line, lines_of-closed_open, GoesOnOrEnds}
 use Rattle.trace_audit.proofs.ClosedAndOpen.{line-closed_open}
-
-few-lines : (most before : ℕ) → before < most → nat_le most before ≡ false
-few-lines most before few = grind (arith, common_steps)
-
-many-lines : (most before : ℕ) → most ≤ before → nat_le most before ≡ true
-many-lines most before full = grind (arith, common_steps)
-
-short-line : (most : ℕ) (line : List ℕ) → length line ≤ most → nat_lt most (length line) ≡ false
-short-line most line fits = grind (arith, common_steps)
-
-long-line : (most : ℕ) (line : List ℕ) → most < length line → nat_lt most (length line) ≡ true
-long-line most line long = grind (arith, common_steps)
 
 module _ (limits : Limits) where
   -- ---- one line

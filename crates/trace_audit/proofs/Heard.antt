@@ -3,8 +3,8 @@ use Rattle.std.proofs.Common.{◌≡◌, ℕ, ◌+◌, Bool, true, false, Some, 
 use Rattle.std.specs.Prelude.{bytes_eq, codes, ◌++◌, if◌then◌else◌}
 use Rattle.std.specs.Option.{option_map, option_and_then}
 use Rattle.std.specs.declared.option.Option.{Option}
-use Rattle.std.proofs.lemmas.Slice.Eq.{bytes_eq-Decides}
 use Rattle.rv_base.proofs.Lists.{some_when, some_map, some_and_then}
+use Rattle.rv_base.proofs.SameWords.{same-bytes}
 use Rattle.proto_model.specs.Tokens.{Text}
 use Rattle.proto_model.specs.RendezvousNext.{rv_next}
 use Rattle.proto_model.specs.declared.rendezvous.Event.{Event}
@@ -16,9 +16,6 @@ use Rattle.trace_audit.specs.Auditing.{after_words, in_section, with_event, hear
 use Rattle.trace_audit.specs.Auditing.{abstraction_line, abstraction_text, line_in}
 use Rattle.trace_audit.specs.declared.auditor.Section.{Section}
 use Rattle.trace_audit.specs.declared.auditor.Section.TheVariants.{Steps, States, Abstraction}
-
-pub same-bytes : (xs ys : Text) → bytes_eq xs ys ≡ true → xs ≡ ys
-same-bytes xs ys e = (bytes_eq-Decides xs ys).0 e
 
 same : {X : Type 0} (x y : X) → Some x ≡ Some y → y ≡ x
 same x y e = cc

@@ -17,7 +17,8 @@ use Rattle.schedule_replay.specs.EventLines.{event_of_first, leading_event}
 use Rattle.schedule_replay.proofs.EventWords.{says-event}
 use Rattle.trace_audit.specs.Auditing.{after_event, after_words}
 use Rattle.trace_audit.specs.PrintedRun.{TellsEvent}
-use Rattle.trace_audit.proofs.Heard.{same-bytes, some_if}
+use Rattle.rv_base.proofs.SameWords.{same-bytes}
+use Rattle.trace_audit.proofs.Heard.{some_if}
 use Rattle.trace_audit.proofs.LeadingWords.{leading_event-told}
 
 -- ---- the numbers that are read have few digits

@@ -41,8 +41,10 @@ behind-front front bytes rest e =
     (ap (λ (more : Text). Some more) (ap (drop (length front)) e ∙ drop-append_seam front rest))
 
 pub indented-is : (line : Text) → is_indented line ≡ true → IsIndented line
-indented-is line e =
-    (drop 2 line, (starts_is {E = nat_eq} Decides-eqb line (codes "  ") (is_indented line) refl).0 e)
+indented-is line e = (
+  drop 2 line,
+  (starts_is {E = nat_eq} Decides-eqb line (codes "  ") (is_indented line) refl).0 e,
+)
 
 pub is-indented : (line : Text) → IsIndented line → is_indented line ≡ true
 is-indented line (rest, e) = front-begins (codes "  ") line rest e

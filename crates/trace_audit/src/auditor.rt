@@ -45,7 +45,7 @@ fn expect_number(number: u32, expected: &mut Vec<u8>) -> Result<(), NoMemory>
     ensures { OnOk result (expected.new.items ≡ decimal number ++ codes " ") }
 {
     expected.clear();
-    let so_far = append_number(expected, Ok(()), number);
+    let so_far = append_number(expected, Ok(()), u64::from(number));
     append(expected, so_far, b" ")
 }
 

@@ -162,12 +162,12 @@ halted : (running : Running) (n : ℕ) (all : Played Running) (lines claim : ℕ
     → abstraction running.setting.protocol running.config ≡ rv_start running.setting.protocol n
     → length running.claims ≤ 16 → PlayedGoes 1000000 0 0 running all
     → all.stop ≡ Halted lines claim
-    → audited running.setting.protocol n (played_text run_play schedule_limits all)
+    → audited running.setting.protocol n (played_text run_play all)
     ≡ RefusedAt (length (closed_lines all.blocks) + 1)
 halted running n all lines claim proper plain starts few goes halts =
     let protocol = running.setting.protocol in
     let within = goes.halts lines claim halts in
-    let text : played_text run_play schedule_limits all
+    let text : played_text run_play all
     ≡ all.blocks ++ (claim_text claim ++ run_ending protocol goes.last) =
     ap (λ (stop : Stop). all.blocks ++ last_text run_play all.state stop) halts
     ∙ ap (λ (state : Running). all.blocks ++ (claim_text claim ++ run_play.ending state))

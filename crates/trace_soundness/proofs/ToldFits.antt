@@ -24,7 +24,7 @@ use Rattle.proto_model.specs.declared.rendezvous.Event.{Event}
 use Rattle.proto_model.specs.declared.rendezvous.Event.TheVariants as event
 use Rattle.proto_model.proofs.ProperFacts.{home_guard-gives, remote_guard-gives}
 use Rattle.rendezvous_meaning.specs.GivenMessage.{event_told, given_text, given_in, given_by}
-use Rattle.rendezvous_meaning.specs.GivenMessage.{numbered_message}
+use Rattle.rendezvous_meaning.specs.GivenMessage.{message_by_number}
 use Rattle.schedule_replay.specs.EventLines.{HasNumbers}
 use Rattle.trace_soundness.proofs.Plain.{IsPlain}
 use Rattle.trace_soundness.proofs.Fits.{Fits, fits-append, fits-less, fits-literal, fits-nil}
@@ -87,7 +87,8 @@ module _ (protocol : NumberedProtocol) (proper : IsProper protocol) (c d : RvCon
 module _ (protocol : NumberedProtocol) (proper : IsProper protocol) (plain : IsPlain protocol) where
   -- a message that is given, behind a space
   given-fits : (message : Option (ℕ × Value))
-      → ((m : ℕ × Value) → message ≡ Some m → Fits 228 (numbered_message protocol.messages m.0 m.1))
+      → ((m : ℕ × Value) → message ≡ Some m
+      → Fits 228 (message_by_number protocol.messages m.0 m.1))
       → Fits 229 (given_text protocol.messages message)
   given-fits None each = fits-nil 229
   given-fits (Some m) each = fits-append (fits-literal (codes " ") refl) (each m refl)
@@ -95,7 +96,7 @@ module _ (protocol : NumberedProtocol) (proper : IsProper protocol) (plain : IsP
   -- what the home gives by a guard
   home-gives : (part : Part) → AreOfKinds protocol.home.vars part.vars → (g : ℕ) (m : ℕ × Value)
       → given_by protocol.messages protocol.home part g ≡ Some m
-      → Fits 228 (numbered_message protocol.messages m.0 m.1)
+      → Fits 228 (message_by_number protocol.messages m.0 m.1)
   home-gives part kinds g m gives =
       let give : Rule → Option (ℕ × Value) = λ rule. given protocol.messages part.vars rule.kind in
       let by = some_and_then give (guard_at protocol.home part.state g) m gives in
@@ -105,7 +106,7 @@ module _ (protocol : NumberedProtocol) (proper : IsProper protocol) (plain : IsP
   -- what a remote gives by a guard
   remote-gives : (part : Part) → AreOfKinds protocol.remote.vars part.vars → (g : ℕ) (m : ℕ × Value)
       → given_by protocol.messages protocol.remote part g ≡ Some m
-      → Fits 228 (numbered_message protocol.messages m.0 m.1)
+      → Fits 228 (message_by_number protocol.messages m.0 m.1)
   remote-gives part kinds g m gives =
       let give : Rule → Option (ℕ × Value) = λ rule. given protocol.messages part.vars rule.kind in
       let by = some_and_then give (guard_at protocol.remote part.state g) m gives in
@@ -114,7 +115,7 @@ module _ (protocol : NumberedProtocol) (proper : IsProper protocol) (plain : IsP
 
   -- what is given in an event
   gives : (c : RvConfig) → IsConfigOf protocol c → (e : Event) (m : ℕ × Value)
-      → given_in protocol c e ≡ Some m → Fits 228 (numbered_message protocol.messages m.0 m.1)
+      → given_in protocol c e ≡ Some m → Fits 228 (message_by_number protocol.messages m.0 m.1)
   gives c stands (event.TauHome g) m is = absurd (cc)
   gives c stands (event.TauRemote j g) m is = absurd (cc)
   gives c stands (event.Up j h r) m is =

@@ -67,7 +67,7 @@ passes : (running : Running) (n : ℕ) (all : Played Running)
     → IsProper running.setting.protocol → IsPlain running.setting.protocol
     → abstraction running.setting.protocol running.config ≡ rv_start running.setting.protocol n
     → PlayedGoes 1000000 0 0 running all → all.stop ≡ AtEnd
-    → IsAccepted (audited running.setting.protocol n (played_text run_play schedule_limits all))
+    → IsAccepted (audited running.setting.protocol n (played_text run_play all))
 passes running n all proper plain starts goes ends =
     let protocol = running.setting.protocol in
     let last : Running =
@@ -77,7 +77,7 @@ passes running n all proper plain starts goes ends =
     goes.events_after) in
     let to = at_abstraction (suc (0 + length (abstraction protocol goes.last).remotes))
     goes.events_after (stands_for protocol goes.last) in
-    let text : played_text run_play schedule_limits all
+    let text : played_text run_play all
     ≡ all.blocks ++ run_ending protocol goes.last =
     ap (λ (stop : Stop). all.blocks ++ last_text run_play all.state stop) ends
     ∙ ap (λ (state : Running). all.blocks ++ run_play.ending state) goes.state in
@@ -85,12 +85,12 @@ passes running n all proper plain starts goes ends =
     ap (λ (config : RvConfig). at_steps 0 0 (record { protocol = protocol; config = config }))
     starts in
     let led : Goes 4000200 (audit_start protocol n) to
-    (played_text run_play schedule_limits all) =
-    subst (λ (start : Auditing). Goes 4000200 start to (played_text run_play schedule_limits all))
+    (played_text run_play all) =
+    subst (λ (start : Auditing). Goes 4000200 start to (played_text run_play all))
     from (subst (Goes 4000200 (at_steps 0 0 (stands_for protocol running.config)) to) (sym text)
     whole) in
     subst IsAccepted
-    (sym (goes-accepted 4000200 protocol n to (played_text run_play schedule_limits all) led
+    (sym (goes-accepted 4000200 protocol n to (played_text run_play all) led
     (omega arith) (ending-whole running.setting proper plain goes.last goes.shaped
     goes.events_after)))
     tt

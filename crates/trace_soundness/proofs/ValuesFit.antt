@@ -10,6 +10,7 @@ use Rattle.rv_base.proofs.Lists.{AllByRecursion-at, AllByRecursion-append}
 use Rattle.proto_model.specs.Tokens.{Text}
 use Rattle.proto_model.specs.NumberSets.{has_number, members_below}
 use Rattle.proto_model.specs.Texts.{value_text, carried_text, message_text, vars_text}
+use Rattle.proto_model.specs.Texts.{state_name, message_name}
 use Rattle.proto_model.specs.Proper.{IsProper, IsProperBody, IsProperVar, IsProperKind, IsShortName}
 use Rattle.proto_model.specs.Proper.{IsProperCarry, IsProperState}
 use Rattle.proto_model.specs.Numbered.{NumberedProtocol}
@@ -28,8 +29,7 @@ use Rattle.proto_model.specs.declared.numbered.StateInfo.{StateInfo}
 use Rattle.proto_model.specs.declared.numbered.MessageInfo.{MessageInfo}
 use Rattle.proto_model.specs.declared.numbered.Body.{Body}
 use Rattle.schedule_replay.specs.TextLines.{HasNoLf}
-use Rattle.rendezvous_meaning.specs.GivenMessage.{numbered_message}
-use Rattle.run_replay.specs.StateLines.{message_name, name_of}
+use Rattle.rendezvous_meaning.specs.GivenMessage.{message_by_number}
 use Rattle.trace_soundness.proofs.Plain.{IsPlain, IsPlainBody}
 use Rattle.trace_soundness.proofs.Fits.{Fits, fits-append, fits-less, fits-nil, fits-literal}
 use Rattle.trace_soundness.proofs.Fits.{fits-decimal, fits-joined, fits-name}
@@ -132,7 +132,7 @@ at_place P give items (Some x) each none = each x refl
 -- a message with its value
 pub message-fits : (protocol : NumberedProtocol) → IsProper protocol → IsPlain protocol
     → (m : ℕ) (v : Value) → IsCarriedBy protocol.messages m v
-    → Fits 228 (numbered_message protocol.messages m v)
+    → Fits 228 (message_by_number protocol.messages m v)
 message-fits protocol proper plain m v typed =
     at_place (Fits 228) (λ info. message_text info v) protocol.messages
     (slice_get protocol.messages m)
@@ -188,7 +188,7 @@ body_vars-fit s messages body vs proper plain typed =
 
 -- the name of a state
 pub state_name-fits : (s : Side) (messages : List MessageInfo) (body : Body) (state : ℕ)
-    → IsProperBody s messages body → IsPlainBody body → Fits 32 (name_of body state)
+    → IsProperBody s messages body → IsPlainBody body → Fits 32 (state_name body state)
 state_name-fits s messages body state proper plain =
     at_place (Fits 32) (λ info. info.name) body.states (slice_get body.states state)
     (λ info there. fits-name info.name

@@ -9,6 +9,7 @@ use crate::appending::{Appending, append, append_number};
 use crate::numbered::{Body, MessageInfo, Value, VarInfo};
 use crate::protocol::Carry;
 use crate::rendezvous::{Event, Part};
+use crate::texts::names::state_name;
 use crate::values::{Vars, has_number};
 
 /// What stands before an item of a list, as a member of a set: nothing before the first one, and a
@@ -24,7 +25,7 @@ fn put_member(out: &mut Vec<u8>, so_far: Appending, first: bool, node: u8) -> Ap
     ensures { Continues (texts.member_text first node) so_far out.old.items result out.new.items }
 {
     let so_far = append(out, so_far, separator(first));
-    append_number(out, so_far, u32::from(node))
+    append_number(out, so_far, u64::from(node))
 }
 
 fn put_members(out: &mut Vec<u8>, mut so_far: Appending, set: u64) -> Appending
@@ -45,11 +46,11 @@ fn put_value(out: &mut Vec<u8>, so_far: Appending, value: Value) -> Appending
 {
     match value {
         Value::Unit => so_far,
-        Value::Int(number) => append_number(out, so_far, u32::from(number)),
+        Value::Int(number) => append_number(out, so_far, u64::from(number)),
         Value::Nowhere => append(out, so_far, b"none"),
         Value::Node(node) => {
             let so_far = append(out, so_far, b"#");
-            append_number(out, so_far, u32::from(node))
+            append_number(out, so_far, u64::from(node))
         }
         Value::Set(set) => {
             let so_far = append(out, so_far, b"{");
@@ -121,19 +122,10 @@ fn put_process(out: &mut Vec<u8>, so_far: Appending, remote: Option<u8>) -> Appe
         None => append(out, so_far, b"  home "),
         Some(remote) => {
             let so_far = append(out, so_far, b"  remote ");
-            let so_far = append_number(out, so_far, u32::from(remote));
+            let so_far = append_number(out, so_far, u64::from(remote));
             append(out, so_far, b" ")
         }
     }
-}
-
-// The name of the state in which the process stands.
-fn state_name<'a>(body: &'a Body, part: &Part) -> &'a [u8]
-    requires { part.now.state < length body.now.states }
-    ensures { result.now ≡ texts.state_name body.now part.now }
-{
-    let state = &body.states.as_slice()[part.state as usize];
-    state.name.bytes()
 }
 
 pub(super) fn put_line(
@@ -149,17 +141,18 @@ pub(super) fn put_line(
         out.new.items }
 {
     let so_far = put_process(out, so_far, remote);
-    let so_far = append(out, so_far, state_name(body, part));
+    let so_far = append(out, so_far, state_name(body, part.state));
     let so_far = put_vars(out, so_far, body.vars.as_slice(), &part.vars);
     append(out, so_far, b"\n")
 }
 
-// A space, and a number.
-fn put_argument(out: &mut Vec<u8>, so_far: Appending, number: u32) -> Appending
+/// Appends a space and a number, as an event's first words are followed by, unless memory ran out
+/// before.
+pub fn append_argument(out: &mut Vec<u8>, so_far: Appending, number: u32) -> Appending
     ensures { Continues (texts.argument number) so_far out.old.items result out.new.items }
 {
     let so_far = append(out, so_far, b" ");
-    append_number(out, so_far, number)
+    append_number(out, so_far, u64::from(number))
 }
 
 pub(super) fn put_event(out: &mut Vec<u8>, so_far: Appending, event: Event) -> Appending
@@ -168,24 +161,24 @@ pub(super) fn put_event(out: &mut Vec<u8>, so_far: Appending, event: Event) -> A
     match event {
         Event::TauHome(rule) => {
             let so_far = append(out, so_far, b"tau home");
-            put_argument(out, so_far, rule)
+            append_argument(out, so_far, rule)
         }
         Event::TauRemote(remote, rule) => {
             let so_far = append(out, so_far, b"tau");
-            let so_far = put_argument(out, so_far, remote);
-            put_argument(out, so_far, rule)
+            let so_far = append_argument(out, so_far, remote);
+            append_argument(out, so_far, rule)
         }
         Event::Up(remote, input, output) => {
             let so_far = append(out, so_far, b"up");
-            let so_far = put_argument(out, so_far, remote);
-            let so_far = put_argument(out, so_far, input);
-            put_argument(out, so_far, output)
+            let so_far = append_argument(out, so_far, remote);
+            let so_far = append_argument(out, so_far, input);
+            append_argument(out, so_far, output)
         }
         Event::Down(remote, output, input) => {
             let so_far = append(out, so_far, b"down");
-            let so_far = put_argument(out, so_far, remote);
-            let so_far = put_argument(out, so_far, output);
-            put_argument(out, so_far, input)
+            let so_far = append_argument(out, so_far, remote);
+            let so_far = append_argument(out, so_far, output);
+            append_argument(out, so_far, input)
         }
     }
 }

@@ -17,14 +17,16 @@ take-requires-clause-enabled c =
 pub refresh-requires : goal.refresh-requires
 refresh-requires c =
     let machine = c.args.machine.now in
-    let few = (IsShaped-whole (setting machine) (counted_config machine) c.shaped.ensures).few_remotes in
+    let few = (IsShaped-whole (setting machine) (counted_config machine)
+    c.shaped.ensures).few_remotes in
     subst AreFew (sym c.requires.rows) (rows-few (setting machine) (counted_config machine) few)
 
 pub returns-clause-rows : goal.returns-clause-rows
 returns-clause-rows c =
     let before = c.args.machine.now in
     let after = c.take.new.machine in
-    let few = (IsShaped-whole (setting before) (counted_config before) c.shaped.ensures).few_remotes in
+    let few = (IsShaped-whole (setting before) (counted_config before)
+    c.shaped.ensures).few_remotes in
     let same = ap₂ setting_of c.take.ensures.kept.0 c.take.ensures.kept.1 in
     rows-after (setting before) (setting after) (counted_config before) (counted_config after)
     c.in-Some.step c.args.all.now c.refresh.new.all few same c.take.ensures.step c.requires.rows

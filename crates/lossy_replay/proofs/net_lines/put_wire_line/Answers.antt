@@ -22,13 +22,13 @@ returns c =
     c.append-so_far-2.ensures
     (Continues-append (decimal wire.put) behind_put _ _ _ _ _ _
     (subst (λ (n : ℕ). Continues (decimal n) c.append-so_far-2.result
-    c.append-so_far-2.new.out.items c.put_number-so_far.result c.put_number-so_far.new.out.items)
-    c.put_count.ensures c.put_number-so_far.ensures)
+    c.append-so_far-2.new.out.items c.append_number-so_far.result
+    c.append_number-so_far.new.out.items) c.put_count.ensures c.append_number-so_far.ensures)
     (Continues-append (codes " got ") (decimal wire.got ++ last) _ _ _ _ _ _
     c.append-so_far-3.ensures
     (Continues-append (decimal wire.got) last _ _ _ _ _ _
     (subst (λ (n : ℕ). Continues (decimal n) c.append-so_far-3.result
-    c.append-so_far-3.new.out.items c.put_number-so_far-2.result
-    c.put_number-so_far-2.new.out.items) c.got_count.ensures c.put_number-so_far-2.ensures)
+    c.append-so_far-3.new.out.items c.append_number-so_far-2.result
+    c.append_number-so_far-2.new.out.items) c.got_count.ensures c.append_number-so_far-2.ensures)
     (Continues-append (codes " flight" ++ bracketed (frame_texts wire.flight)) (codes "\n")
     _ _ _ _ _ _ c.put_flight-so_far.ensures c.append.ensures))))))

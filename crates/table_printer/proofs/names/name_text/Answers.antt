@@ -1,6 +1,5 @@
 -- The bytes of a name are text.
-use Rattle.std.proofs.Common.{Result, Ok, Err, refl, sym, subst}
-use Rattle.std.specs.Str.{IsUtf8}
+use Rattle.std.proofs.Common.{Result, Ok, Err, refl}
 use Rattle.std.specs.Result.{MatchResult, IsOk}
 use Rattle.table_printer.proofs.AsciiNames.{AllWord-text}
 use Rattle.table_printer.proofs.names.name_text.Goals as goal
@@ -12,6 +11,6 @@ ok_of (Err error) P Q none cases = absurd (none error cases)
 
 pub unwrap-requires : goal.unwrap-requires
 unwrap-requires c =
-    let text : IsUtf8 c.bytes.result.now = subst IsUtf8 (sym c.bytes.ensures.value)
-    (AllWord-text c.args.name.now c.bytes.ensures.word) in
-    ok_of c.from_utf8.result _ _ (λ error cases. cases.0 text) c.from_utf8.ensures.cases
+    ok_of c.from_utf8.result _ _
+    (λ error cases. cases.0 (AllWord-text c.args.name.now c.requires))
+    c.from_utf8.ensures.cases

@@ -6,7 +6,8 @@ use Rattle.rv_base.proofs.memory.sources.SteadySourceSource.read.Goals as goal
 
 pub returns-clause-bytes : goal.returns-clause-bytes
 returns-clause-bytes c =
-    let split = take-append-drop-on c.self.inside.bytes.items c.self.inside.at c.min-count.result in (
+    let split = take-append-drop-on c.self.inside.bytes.items c.self.inside.at
+    c.min-count.result in (
       grind (arith, common_steps),
       grind (arith, common_steps),
       ap (λ left. Some left)
