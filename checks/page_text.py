@@ -118,6 +118,14 @@ def commands(lines):
     return found
 
 
+def last_program(script):
+    """The program whose status is that of a script, as far as its first lines tell."""
+    here = HERE.search(script)
+    end = script.find("\n", here.start()) if here else -1
+    words = re.split(r"[|;&\n]\s*", script if end < 0 else script[:end])[-1].split()
+    return words[0] if words else ""
+
+
 def agrees(shown, written):
     """Says whether these lines are the text that was written; a line `..` stands for any lines."""
     text = "".join(line + "\n" for line in shown)
