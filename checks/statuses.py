@@ -1,4 +1,4 @@
-"""The exit status that goes with what the program wrote: the tables of docs/FORMATS.md as code."""
+"""The exit status that the program's output implies, by the tables of docs/FORMATS.md."""
 import re
 
 # The last line of a run that refused something.
@@ -11,7 +11,7 @@ BROKEN = re.compile(r"^claim \d+ broken$", re.M)
 
 
 def status_of(text):
-    """The exit status of a run that wrote this, if its output took it all and memory sufficed."""
+    """The exit status of a run that wrote this, unless memory ran out or a write failed."""
     if not text:
         return 4
     last = text.rstrip("\n").rpartition("\n")[2]
