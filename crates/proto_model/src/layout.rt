@@ -31,6 +31,3 @@ pub fn print(alloc: Global, protocol: &Protocol, out: &mut Vec<u8>) -> Result<()
     *out = text;
     result
 }
-
-#[cfg(test)]
-mod tests;

@@ -69,6 +69,3 @@ pub fn event_text(_alloc: Global, event: Event, out: &mut Vec<u8>) -> Result<(),
 {
     put_event(out, Ok(()), event)
 }
-
-#[cfg(test)]
-mod tests;

@@ -9,6 +9,3 @@ pub use completing::{complete, first_vars};
 pub use evaluation::{eval, guard_open, is_target, send_value, targets};
 pub use number_sets::has_number;
 pub use vars::Vars;
-
-#[cfg(test)]
-mod tests;

@@ -4,8 +4,13 @@
 //! - `words`: the words of a line.
 //! - `sources` and `sinks`: calls that fail in mid-stream.
 //! - `whole`: a source read to its end, and a text written whole.
+//! - `layout`: the laid-out texts of two protocols, which use every rule of the grammar.
+//! - `texts`: the texts of values, messages, processes and events.
+//! - `values`: how expressions and guards compute.
 #![tactic(auto)]
 
+#[cfg(test)]
+mod layout;
 #[cfg(test)]
 mod numbers;
 #[cfg(test)]
@@ -14,6 +19,10 @@ mod numerals;
 mod sinks;
 #[cfg(test)]
 mod sources;
+#[cfg(test)]
+mod texts;
+#[cfg(test)]
+mod values;
 #[cfg(test)]
 mod whole;
 #[cfg(test)]

@@ -1,11 +1,13 @@
+//! The texts of values, messages with their values, variables, rendezvous lines and events.
+
 ghost use Rattle.proto_model.specs.ValueTypes.{IsCarried};
 
-use super::*;
-use crate::name::Name;
-use crate::numbered::{StateInfo, VarInfo};
-use crate::protocol::{Carry, VarKind};
-use crate::values::first_vars;
-use rv_base::Items;
+use proto_model::{
+    Body, Carry, Event, MessageInfo, Name, Part, StateInfo, Value, VarInfo, VarKind, event_text,
+    first_vars, message_text, rv_line, vars_text,
+};
+use rv_base::{Items, NoMemory};
+use std::alloc::Global;
 use std::test::Fail;
 
 fn variable(name: Name, kind: VarKind, first: Value) -> VarInfo {
@@ -13,7 +15,7 @@ fn variable(name: Name, kind: VarKind, first: Value) -> VarInfo {
 }
 
 // Four variables and the one state `H`.
-#[tactic(auto, unfolding(crate::specs::Tokens::is_word))]
+#[tactic(auto, unfolding(proto_model::specs::Tokens::is_word))]
 fn body(alloc: Global) -> Result<Body, NoMemory> {
     let mut vars = Items::new(alloc);
     vars.push(variable(Name::new(alloc, b"c")?, VarKind::Int(4), Value::Int(3)))?;
@@ -33,7 +35,7 @@ fn body(alloc: Global) -> Result<Body, NoMemory> {
 }
 
 // Appends the message `m` with this value, and a space.
-#[tactic(auto, unfolding(crate::specs::Tokens::is_word))]
+#[tactic(auto, unfolding(proto_model::specs::Tokens::is_word))]
 fn show(alloc: Global, carries: Carry, value: Value, out: &mut Vec<u8>) -> Result<(), NoMemory>
     requires { IsCarried carries value }
 {

@@ -1,18 +1,18 @@
+//! The values that rules compute with.
+
 ghost use Rattle.std.specs.Prelude.{◌≡◌, IfOk};
 ghost use Rattle.proto_model.specs.Proper.{IsBound, IsProperKind};
 
-use super::*;
-use crate::name::Name;
-use crate::numbered::{
-    Rule, RuleAssign, RuleExpr, RuleKind, RulePartner, RuleTerm, Value, VarInfo,
+use proto_model::{
+    Carry, Name, Rule, RuleAssign, RuleExpr, RuleKind, RulePartner, RuleTerm, Value, VarInfo,
+    VarKind, complete, eval, first_vars, guard_open, send_value, targets,
 };
-use crate::protocol::{Carry, VarKind};
 use rv_base::{Items, NoMemory};
 use std::alloc::Global;
 use std::test::Fail;
 
 // The variable `x`.
-#[tactic(auto, unfolding(crate::specs::Tokens::is_word))]
+#[tactic(auto, unfolding(proto_model::specs::Tokens::is_word))]
 fn variable(alloc: Global, kind: VarKind, first: Value) -> Result<VarInfo, NoMemory>
     ensures { IfOk result (λ v. (v.kind ≡ kind) × (v.first ≡ first)) }
 {
