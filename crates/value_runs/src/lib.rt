@@ -7,10 +7,13 @@
 //! - `layout`: the laid-out texts of two protocols, which use every rule of the grammar.
 //! - `texts`: the texts of values, messages, processes and events.
 //! - `values`: how expressions and guards compute.
+//! - `lexemes`: files with awkward bytes.
 #![tactic(auto)]
 
 #[cfg(test)]
 mod layout;
+#[cfg(test)]
+mod lexemes;
 #[cfg(test)]
 mod numbers;
 #[cfg(test)]
