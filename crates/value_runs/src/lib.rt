@@ -8,8 +8,11 @@
 //! - `texts`: the texts of values, messages, processes and events.
 //! - `values`: how expressions and guards compute.
 //! - `lexemes`: files with awkward bytes.
+//! - `claims`: which claim of a protocol doesn't hold.
 #![tactic(auto)]
 
+#[cfg(test)]
+mod claims;
 #[cfg(test)]
 mod layout;
 #[cfg(test)]
