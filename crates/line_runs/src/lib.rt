@@ -1,0 +1,10 @@
+//! Tests of lines: how a source is cut into them, and what a line of each kind of schedule says.
+//!
+//! - `lines`: the lines of a source.
+//! - `event_lines`: schedules of events.
+#![tactic(auto)]
+
+#[cfg(test)]
+mod event_lines;
+#[cfg(test)]
+mod lines;
