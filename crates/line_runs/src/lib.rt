@@ -2,9 +2,12 @@
 //!
 //! - `lines`: the lines of a source.
 //! - `event_lines`: schedules of events.
+//! - `step_lines`: schedules of steps.
 #![tactic(auto)]
 
 #[cfg(test)]
 mod event_lines;
 #[cfg(test)]
 mod lines;
+#[cfg(test)]
+mod step_lines;
