@@ -3,8 +3,11 @@
 //! - `lines`: the lines of a source.
 //! - `event_lines`: schedules of events.
 //! - `step_lines`: schedules of steps.
+//! - `array_lines`: schedules of steps of several cache lines.
 #![tactic(auto)]
 
+#[cfg(test)]
+mod array_lines;
 #[cfg(test)]
 mod event_lines;
 #[cfg(test)]
