@@ -4,6 +4,7 @@
 //! - `event_lines`: schedules of events.
 //! - `step_lines`: schedules of steps.
 //! - `array_lines`: schedules of steps of several cache lines.
+//! - `net_lines`: moves of the network.
 #![tactic(auto)]
 
 #[cfg(test)]
@@ -12,5 +13,7 @@ mod array_lines;
 mod event_lines;
 #[cfg(test)]
 mod lines;
+#[cfg(test)]
+mod net_lines;
 #[cfg(test)]
 mod step_lines;

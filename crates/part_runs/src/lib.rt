@@ -1,0 +1,7 @@
+//! Tests of the parts of which the machine is made, and of those of an image: single calls.
+//!
+//! - `lossy_links`: links over a network that loses, repeats and reorders.
+#![tactic(auto)]
+
+#[cfg(test)]
+mod lossy_links;
