@@ -5,6 +5,7 @@
 //! - `step_lines`: schedules of steps.
 //! - `array_lines`: schedules of steps of several cache lines.
 //! - `net_lines`: moves of the network.
+//! - `lossy_lines`: schedules of steps and of moves of the network.
 #![tactic(auto)]
 
 #[cfg(test)]
@@ -13,6 +14,8 @@ mod array_lines;
 mod event_lines;
 #[cfg(test)]
 mod lines;
+#[cfg(test)]
+mod lossy_lines;
 #[cfg(test)]
 mod net_lines;
 #[cfg(test)]
