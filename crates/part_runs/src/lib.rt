@@ -1,7 +1,10 @@
 //! Tests of the parts of which the machine is made, and of those of an image: single calls.
 //!
+//! - `rings`: links that are rings.
 //! - `lossy_links`: links over a network that loses, repeats and reorders.
 #![tactic(auto)]
 
 #[cfg(test)]
 mod lossy_links;
+#[cfg(test)]
+mod rings;
