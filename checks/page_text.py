@@ -158,7 +158,7 @@ def changed(base, line, text):
 
 def without(text, told):
     """A file without a guard, or a part of one, in the first state of this name that has it. It is
-    told as "`guard` in `state`", "`part` before `other` in `state`" or likewise with "behind"; `..`
+    told as "`guard` in `state`", "`part` before `other` in `state`" or likewise with "after"; `..`
     stands for anything. None where there is none."""
     names = CODE.findall(told)
     if len(names) < 2:
@@ -167,7 +167,7 @@ def without(text, told):
     pattern = r"\n *" + pattern if names[0].endswith(";") else " " + pattern
     if "` before `" in told:
         pattern += "(?= %s)" % re.escape(names[1])
-    if "` behind `" in told:
+    if "` after `" in told:
         pattern = "(?<=%s)%s" % (re.escape(names[1]), pattern)
     for section in re.finditer(r"\n  state %s \{.*?\n  \}" % re.escape(names[-1]), text, re.S):
         mended = re.sub(pattern, "", section.group(), 1)
