@@ -25,15 +25,15 @@ TAIL = 1 << 20
 CODES = {
     1: ("no protocol", "Read from the front, this line has the first piece with which the file "
         "can no longer become a protocol.",
-        "A missing `;` or `}` is told at the next piece: look at what stands before it, too."),
+        "A missing `;` or `}` is reported at the next piece: look at what is before it, too."),
     10: ("too many", "There is more here than the limit.",
          "Join what belongs together, or let a local step go to a second state with the rest."),
     11: ("name too long", "A declared name has at most 32 bytes.", "Shorten the name."),
     12: ("duplicate", "The name is declared already.", "Rename one of the two."),
-    13: ("unknown", "A name isn't declared.", "Declare it, or look for a slip of the pen."),
+    13: ("unknown", "A name isn't declared.", "Declare it, or look for a typo."),
     14: ("wrong type", "Types don't agree.", ""),
     15: ("wrong direction", "A message goes the other way.",
-         "Turn the guard round, or the message's direction; where both sides need to send it, "
+         "Turn the guard round, or the message's direction; if both sides need to send it, "
          "declare two messages."),
     16: ("not a star", "A remote meets `home` alone, and the home meets remotes.", ""),
     17: ("active mixed", "An output of a remote is the only guard of its state.",
@@ -63,8 +63,8 @@ A line may also be blank; `//` begins a comment. Guards and remotes are counted 
 
 NET_LINES = """  net J up resend P    the packet at place P of the window of this wire is sent once more
   net J up lose P      the frame at place P of its flight is lost
-  net J up copy P      this frame is under way once more
-  net J up pass P      this frame arrives, and is received where it is the next one
+  net J up copy P      this frame is duplicated
+  net J up pass P      this frame arrives, and is received if it is the next one
   net J down resend P  the same of the wire down to remote J
   net J down lose P
   net J down copy P
@@ -227,8 +227,8 @@ def usage(words):
     """Status 1."""
     fault = word_fault(words)
     if fault is None:
-        return ["The words have none of the forms that `./rvc --help` lists."]
-    return ["The words have no form. " + fault, "`./rvc --help` has each form."]
+        return ["These arguments are invalid: `./rvc --help` lists the commands."]
+    return ["Invalid arguments. " + fault, "`./rvc --help` lists the commands."]
 
 
 def refused_file(command, path, again):
@@ -239,13 +239,13 @@ def refused_file(command, path, again):
     status, answer = again.verdict() if text is not None else (None, b"")
     if status != 2:
         return ["%s is refused (status 2). Standard output has the line and the code; the file "
-                "can't be read a second time, so no more is told here." % shown(path),
+                "can't be read a second time, so there are no details here." % shown(path),
                 "More: %s, a section for each code" % page("CODES.md")]
     if answer == b"error file too long\n":
         return ["%s: the file is too long: it may have at most 65,536 bytes." % shown(path),
-                "More: " + page("FORMATS.md", "Limits")]
+                "More: " + page("LIMITS.md", "A protocol file")]
     if answer == b"error file text too long\n":
-        return ["%s: the laid-out text of the protocol, as `print` writes it, is too long: it may "
+        return ["%s: the canonical form of the protocol, as `print` writes it, is too long: it may "
                 "have at most 65,536 bytes." % shown(path),
                 "More: " + page("FORMATS.md", "The image of `store`")]
     found = re.fullmatch(rb"error file line (\d+) code (\d+)\n", answer)
@@ -258,9 +258,9 @@ def refused_file(command, path, again):
 STORES = {
     b"error file too long\n": "it has more than 262,144 bytes",
     b"error image head\n": "it doesn't begin as one does, or isn't as long as its head says",
-    b"error image text\n": "its text isn't the laid-out text of a well-formed protocol",
-    b"error image rows\n": "its head tells other numbers of rows than the table of its protocol "
-                          "has in its mode",
+    b"error image text\n": "its text isn't the canonical form of a well-formed protocol",
+    b"error image rows\n": "its head has other numbers of rows than the table of its protocol "
+                          "in its mode",
 }
 
 
@@ -341,7 +341,7 @@ def misfit_sentences(misfit):
     if piece.kind == END:
         return ["The file ends here, and something is missing. " + can]
     named = "`%s`" % piece.text if " " < piece.text <= "~" else "A byte %d" % ord(piece.text)
-    return ["%s can't stand there%s. %s" % (named, why(misfit), can)]
+    return ["%s isn't allowed there%s. %s" % (named, why(misfit), can)]
 
 
 def why(misfit):
@@ -361,13 +361,13 @@ def why(misfit):
     if text in RESERVED and NAME in misfit.wanted:
         return ": it is a reserved word, and no name"
     if text == "claim" and misfit.version == 1:
-        return ": a file has claims only where its first line says `version 2`"
+        return ": a file has claims only if its header says `version 2`"
     if text == "or" and "and" in misfit.wanted:
         return ": there is no `or`; write the guard twice"
     if text == "=" and "eq" in misfit.wanted:
         return ": equality is `eq`"
     if text == "when" and "goto" in misfit.wanted:
-        return ": the condition stands before the assignments"
+        return ": the condition comes before the assignments"
     return ""
 
 
@@ -455,15 +455,15 @@ def words_fault(schedule, words):
             continue
         if len(named) == len(likely):
             known = list(dict.fromkeys(named))
-            return "Behind `%s` stands %s or %s, and here is `%s`. " % (
+            return "After `%s` comes %s or %s, and here is `%s`. " % (
                 " ".join(likely[0][:place]), ", ".join(known[:-1]), known[-1], seen(words[place]))
         likely = [form for form in likely if not form[place].islower()]
     form = likely[0]
     if len(words) != len(form):
         lengths = sorted({len(form) - 1 for form in likely})
-        count = "stands 1 word" if lengths == [1] else "stand %d words" % lengths[0]
+        count = "comes 1 word" if lengths == [1] else "come %d words" % lengths[0]
         count += " or more" if len(lengths) > 1 else ""
-        return "Behind `%s` %s, and here are %d. " % (form[0], count, len(words) - 1)
+        return "After `%s` %s, and here are %d. " % (form[0], count, len(words) - 1)
     for name, word in zip(form, words):
         if not name.islower() and not re.fullmatch("0|[1-9][0-9]{0,4}", word):
             return ("`%s` is no number here: it is 0, or has up to five digits and no leading "
@@ -536,8 +536,8 @@ def unwritten():
     except OSError:
         return [text + ": standard output is closed."]
     if stat.S_ISFIFO(mode) or stat.S_ISSOCK(mode):
-        return [text + ": whoever reads standard output takes no more."]
-    return [text + ": standard output takes no more, as where a disk is full."]
+        return [text + ": the reader of standard output takes no more."]
+    return [text + ": standard output takes no more (is a disk full?)."]
 
 
 # Status 7.
@@ -599,16 +599,16 @@ def in_words(claim):
     names = [name.text for name in claim.states]
     if claim.kind == "not":
         if names[0] == names[1]:
-            return "no two remotes stand in %s" % names[0]
-        return "no two remotes stand the one in %s and the other in %s" % tuple(names)
+            return "no two remotes are in %s" % names[0]
+        return "no remote is in %s while another is in %s" % tuple(names)
     names = list(dict.fromkeys(names))
     where = names[0] if len(names) == 1 else ", ".join(names[:-1]) + " or " + names[-1]
     most = int(claim.number.text)
     if most == 0:
-        return "no remote stands in %s" % where
+        return "no remote is in %s" % where
     if most == 1:
-        return "at most one remote stands in %s" % where
-    return "at most %d remotes stand in %s" % (most, where)
+        return "at most one remote is in %s" % where
+    return "at most %d remotes are in %s" % (most, where)
 
 
 def standing(claim, end):
@@ -620,4 +620,4 @@ def standing(claim, end):
         return []
     if len(texts) > 8:
         texts = texts[:8] + ["%d more" % (len(texts) - 8)]
-    return ["Here stand %s." % listed(texts)]
+    return ["Here: %s." % listed(texts)]

@@ -232,7 +232,7 @@ def wrong_initial(variable):
     if variable.initial.kind == right:
         return []
     first = "a number below its N" if word == "int" else "`%s`" % right
-    sentence = "`%s` is declared %s, and %s begins with %s; here stands `%s`." % (
+    sentence = "`%s` is declared %s, and %s begins with %s; here is `%s`." % (
         variable.name.text, type_text(variable.type), article(word), first, variable.initial.text)
     return [Fault(14, [sentence], variable)]
 
@@ -331,7 +331,7 @@ def wrong_type(file, process, guard):
             return kinds[0]
         if kinds == ["set", "node"]:
             return "set"
-        reasons.append("`%s`: `%s` joins two ints, or a set and a node behind it; these are %s "
+        reasons.append("`%s`: `%s` joins two ints, or a set and then a node; these are %s "
                        "and %s." % (written(file, value.first, value.last), value.operator,
                                     article(kinds[0]), article(kinds[1])))
         return None
@@ -359,7 +359,7 @@ def wrong_partner(process, guard, of, reasons):
         reasons.append("A partner is a node, and `%s` is %s." % (
             partner.variable.text, article(of(partner.variable))))
     if partner.set is not None and of(partner.set) != "set":
-        reasons.append("Behind `in` stands a set, and `%s` is %s." % (
+        reasons.append("After `in` comes a set, and `%s` is %s." % (
             partner.set.text, article(of(partner.set))))
 
 
@@ -378,12 +378,12 @@ def wrong_value(file, guard, of, value_of, reasons):
         return
     if guard.value is None:
         if carried is not None:
-            reasons.append("`%s` carries %s, so a value has to stand in parentheses behind it."
+            reasons.append("`%s` carries %s, so a value has to follow it in parentheses."
                            % (name, article(carried)))
         return
     sent = value_of(guard.value)
     if carried is None:
-        reasons.append("`%s` carries nothing, so no value may stand behind it." % name)
+        reasons.append("`%s` carries nothing, so no value may follow it." % name)
     elif sent is not None and sent != carried:
         reasons.append("`%s` carries %s, and `%s` is %s." % (
             name, article(carried), written(file, guard.value.first, guard.value.last),
@@ -401,7 +401,7 @@ def wrong_comparison(file, condition, value_of, reasons):
     elif relation in ("lt", "le"):
         right_so, wants = left == right == "int", "two ints"
     else:
-        right_so, wants = (left, right) == ("node", "set"), "a node before it and a set behind it"
+        right_so, wants = (left, right) == ("node", "set"), "a node before it and a set after it"
     if not right_so:
         reasons.append("`%s`: `%s` wants %s; these are %s and %s." % (
             written(file, condition.first, condition.last), relation, wants, article(left),

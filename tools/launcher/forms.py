@@ -49,19 +49,19 @@ def word_fault(words):
     """Which of the words has no form and what it may be, as a sentence; None where all have one."""
     wrong = [place for place, word in enumerate(words) if not is_text(word)]
     if wrong:
-        return "%s isn't UTF-8, so the words have no form." % nth_word(wrong[0])
+        return "%s isn't UTF-8." % nth_word(wrong[0])
     if not words:
         return "No command is given. " + commands()
     command = words[0]
     if command not in FORMS:
         if command == "--help":
-            return "`--help` stands alone: ./rvc --help"
+            return "`--help` takes no other argument: ./rvc --help"
         return "`%s` is no command%s. %s" % (shown(command), guess(command, FORMS), commands())
     form = FORMS[command]
     written = "%s %s" % (command, " ".join(form))
     given = len(words) - 1
     if given < len(form):
-        return "Behind `%s` the %s is missing (%s). %s" % (
+        return "After `%s` the %s is missing (%s). %s" % (
             " ".join(map(shown, words)),
             form[given],
             written,
@@ -72,7 +72,7 @@ def word_fault(words):
         advice = ""
         if form[0] == "PATH":
             advice = " A path with a space in it needs quotes."
-        return "Behind %s the word `%s` is one too many.%s" % (written, extra, advice)
+        return "After %s the argument `%s` is one too many.%s" % (written, extra, advice)
     for name, word in zip(form, words[1:]):
         if not MEANT[name](word):
             return "In %s, `%s` is no %s: %s%s" % (
@@ -131,7 +131,7 @@ def commands():
 
 def nth_word(place):
     """A word by its place, counted from 0, at the front of a sentence."""
-    return "The %s word" % PLACES[place] if place < len(PLACES) else "Word %d" % (place + 1)
+    return "The %s argument" % PLACES[place] if place < len(PLACES) else "Argument %d" % (place + 1)
 
 
 def shown(word):

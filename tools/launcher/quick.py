@@ -88,7 +88,7 @@ def answer(crate, words):
             data = ["--data", "%s=%s" % (PROTOCOL, copy)] if copy else []
             if words[0] in READ_STANDARD_INPUT:
                 given = copied_input(folder)
-        tell(["rvc: compiling the program without its proofs, which takes about half a minute"])
+        tell(["rvc: compiling the program without its proofs, which takes about a minute"])
         status, text = tried(crate, handed, data, given)
         if not write(text):
             status = 5
