@@ -257,7 +257,7 @@ def refused_file(command, path, again):
 # Of each text for a file that is no control store: what it means.
 STORES = {
     b"error file too long\n": "it has more than 262,144 bytes",
-    b"error image head\n": "it doesn't begin as one does, or isn't as long as its head says",
+    b"error image head\n": "it doesn't begin as one does, or hasn't the length that its head says",
     b"error image text\n": "its text isn't the canonical form of a well-formed protocol",
     b"error image rows\n": "its head has other numbers of rows than the table of its protocol "
                           "in its mode",
