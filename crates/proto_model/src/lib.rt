@@ -52,4 +52,5 @@ pub use texts::{
 };
 pub use values::{
     Vars, complete, eval, first_vars, guard_open, has_number, is_target, send_value, targets,
+    with_number, without_number,
 };

@@ -7,5 +7,5 @@ mod vars;
 
 pub use completing::{complete, first_vars};
 pub use evaluation::{eval, guard_open, is_target, send_value, targets};
-pub use number_sets::has_number;
+pub use number_sets::{has_number, with_number, without_number};
 pub use vars::Vars;

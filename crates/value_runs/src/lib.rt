@@ -8,6 +8,7 @@
 //! - `texts`: the texts of values, messages, processes and events.
 //! - `values`: how expressions and guards compute.
 //! - `lexemes`: files with awkward bytes.
+//! - `live`: the variables of a protocol that are live in each state.
 //! - `claims`: which claim of a protocol doesn't hold.
 #![tactic(auto)]
 
@@ -17,6 +18,8 @@ mod claims;
 mod layout;
 #[cfg(test)]
 mod lexemes;
+#[cfg(test)]
+mod live;
 #[cfg(test)]
 mod numbers;
 #[cfg(test)]

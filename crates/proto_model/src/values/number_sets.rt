@@ -11,14 +11,14 @@ pub fn has_number(set: u64, number: u8) -> bool
 }
 
 /// The set with the number; one from 64 on is not added.
-pub(super) fn with_number(set: u64, number: u8) -> u64
+pub fn with_number(set: u64, number: u8) -> u64
     ensures { result ≡ sets.with_number set number }
 {
     if number < 64 { set | 1 << number } else { set }
 }
 
 /// The set without the number.
-pub(super) fn without_number(set: u64, number: u8) -> u64
+pub fn without_number(set: u64, number: u8) -> u64
     ensures { result ≡ sets.without_number set number }
 {
     if has_number(set, number) {
