@@ -10,7 +10,6 @@ use proto_model::{
 use rv_base::Items;
 use std::alloc::Global;
 use std::process::Abort;
-use std::test::Fail;
 
 static TEXT: &str = "protocol whole_1;
 message ask up;
@@ -296,21 +295,28 @@ fn remote(rt: &impl Abort, alloc: Global) -> Process {
     }
 }
 
-#[test]
-fn every_rule_of_version_1_is_laid_out(rt: HostRuntime) -> Result<(), Fail> {
-    let alloc = rt.alloc();
-    let protocol = Protocol {
-        name: name(&rt, alloc, b"whole_1"),
+fn printed(rt: &impl Abort, alloc: Global, protocol: &Protocol) -> Vec<u8> {
+    let mut text = Vec::new(alloc);
+    print(alloc, protocol, &mut text).expect(rt, "no memory");
+    text
+}
+
+fn whole(rt: &impl Abort, alloc: Global) -> Protocol {
+    Protocol {
+        name: name(rt, alloc, b"whole_1"),
         version: 1,
-        messages: messages(&rt, alloc),
-        home: home(&rt, alloc),
-        remote: remote(&rt, alloc),
+        messages: messages(rt, alloc),
+        home: home(rt, alloc),
+        remote: remote(rt, alloc),
         claims: Items::new(alloc),
-    };
-    let mut out = Vec::new(alloc);
-    print(alloc, &protocol, &mut out)?;
-    assert_eq!(rt; out.as_slice(), TEXT.as_bytes());
-    Ok(())
+    }
+}
+
+#[test]
+fn every_rule_of_version_1_is_laid_out(rt: HostRuntime) {
+    let protocol = whole(&rt, rt.alloc());
+    let text = printed(&rt, rt.alloc(), &protocol);
+    assert_eq!(rt; text.as_slice(), TEXT.as_bytes());
 }
 
 // A process that names its start alone.
@@ -330,19 +336,20 @@ fn claims(rt: &impl Abort, alloc: Global) -> Items<Claim> {
     ]
 }
 
-#[test]
-fn the_version_and_the_claims_are_laid_out(rt: HostRuntime) -> Result<(), Fail> {
-    let alloc = rt.alloc();
-    let protocol = Protocol {
-        name: name(&rt, alloc, b"small"),
+fn small(rt: &impl Abort, alloc: Global) -> Protocol {
+    Protocol {
+        name: name(rt, alloc, b"small"),
         version: 2,
         messages: Items::new(alloc),
-        home: still(&rt, alloc),
-        remote: still(&rt, alloc),
-        claims: claims(&rt, alloc),
-    };
-    let mut out = Vec::new(alloc);
-    print(alloc, &protocol, &mut out)?;
-    assert_eq!(rt; out.as_slice(), WITH_CLAIMS.as_bytes());
-    Ok(())
+        home: still(rt, alloc),
+        remote: still(rt, alloc),
+        claims: claims(rt, alloc),
+    }
+}
+
+#[test]
+fn the_version_and_the_claims_are_laid_out(rt: HostRuntime) {
+    let protocol = small(&rt, rt.alloc());
+    let text = printed(&rt, rt.alloc(), &protocol);
+    assert_eq!(rt; text.as_slice(), WITH_CLAIMS.as_bytes());
 }

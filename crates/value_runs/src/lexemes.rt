@@ -1,7 +1,6 @@
 //! Files with awkward bytes: the line at which each is refused, or what it is read as.
 
-use proto_model::{Protocol, print};
-use protocol_reader::{ReadError, read};
+use protocol_reader::{ReadError, Spelled, read};
 use std::alloc::Global;
 use std::process::Abort;
 
@@ -56,26 +55,12 @@ const HEADERS: [(&[u8], &[u8], u32, u32); 5] = [
     (b"//\n//\n\nprotocol b//\n;", b"b", 4, 5),
 ];
 
-// The body laid out, behind a name.
-const LAID_OUT: &[u8] = b";
-home {
-  start H;
-  state H {
-  }
-}
-remote {
-  start R;
-  state R {
-  }
-}
-";
-
-fn joined(rt: &impl Abort, alloc: Global, pieces: &[&[u8]]) -> Vec<u8> {
-    let mut all = Vec::new(alloc);
-    for piece in pieces {
-        all.extend_from_slice(piece).expect(rt, "no memory");
-    }
-    all
+// The file of this header and the body.
+fn file_of(rt: &impl Abort, alloc: Global, header: &[u8]) -> Vec<u8> {
+    let mut file = Vec::new(alloc);
+    file.extend_from_slice(header).expect(rt, "no memory");
+    file.extend_from_slice(BODY).expect(rt, "no memory");
+    file
 }
 
 // The line at which the file is refused, or 0.
@@ -94,25 +79,28 @@ fn each_is_refused(rt: &impl Abort, alloc: Global) {
 
 fn each_header_is_refused(rt: &impl Abort, alloc: Global) {
     for header in WRONG_HEADERS {
-        let file = joined(rt, alloc, &[header, BODY]);
+        let file = file_of(rt, alloc, header);
         assert_eq!(rt; fault_line(alloc, &file), 2, "in {header:?}");
     }
 }
 
-fn printed(rt: &impl Abort, alloc: Global, protocol: &Protocol) -> Vec<u8> {
-    let mut text = Vec::new(alloc);
-    print(alloc, protocol, &mut text).expect(rt, "no memory");
-    text
+// What a file of this header is read as.
+fn read_behind(rt: &impl Abort, alloc: Global, header: &[u8]) -> Spelled {
+    let file = file_of(rt, alloc, header);
+    read(alloc, &file).expect(rt, "a protocol")
+}
+
+// That the header gives this name, and that it and the six items of the body are on these lines.
+fn is_named(rt: &impl Abort, spelled: &Spelled, name: &[u8], first: u32, last: u32) {
+    assert_eq!(rt; spelled.protocol.name.bytes(), name);
+    let lines = [first, last, last, last, last, last, last];
+    assert_eq!(rt; spelled.lines.as_slice(), lines.as_slice(), "of {name:?}");
 }
 
 fn each_header_is_read(rt: &impl Abort, alloc: Global) {
     for (header, name, first, last) in HEADERS {
-        let file = joined(rt, alloc, &[header, BODY]);
-        let spelled = read(alloc, &file).expect(rt, "a protocol");
-        let text = joined(rt, alloc, &[b"protocol ", name, LAID_OUT]);
-        assert_eq!(rt; printed(rt, alloc, &spelled.protocol), text);
-        let lines = [first, last, last, last, last, last, last];
-        assert_eq!(rt; spelled.lines.as_slice(), lines.as_slice(), "in {header:?}");
+        let spelled = read_behind(rt, alloc, header);
+        is_named(rt, &spelled, name, first, last);
     }
 }
 
