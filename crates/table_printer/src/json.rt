@@ -11,7 +11,7 @@ use crate::text::{carries_text, mode_text, reply_at};
 use controller_table::{Controller, Row, Table};
 use proto_model::{Body, MessageInfo, message_name};
 use rv_base::NoMemory;
-use serde_json::{Value, json};
+use serde_json::{Map, Value, put};
 use std::alloc::{AllocError, Global};
 
 // A row: an object of its five texts.
@@ -23,12 +23,18 @@ fn row_value(
 ) -> Result<Value, AllocError>
     ensures { IfOk result (λ v. view v ≡ json.row_data messages.now body.now row.now) }
 {
-    let at = Value::String(place_text(alloc, body, row.at)?);
-    let does = Value::String(does_text(alloc, body, row.does)?);
-    let on = Value::String(trigger_text(alloc, messages, row.on)?);
-    let puts = Value::String(puts_text(alloc, messages, row.puts)?);
-    let to = Value::String(place_text(alloc, body, row.to)?);
-    json!(in alloc; {"at": at, "does": does, "on": on, "puts": puts, "to": to})
+    let mut texts = Map::new(alloc);
+    let at = place_text(alloc, body, row.at)?;
+    put(&mut texts, alloc, "at", Value::String(at))?;
+    let does = does_text(alloc, body, row.does)?;
+    put(&mut texts, alloc, "does", Value::String(does))?;
+    let on = trigger_text(alloc, messages, row.on)?;
+    put(&mut texts, alloc, "on", Value::String(on))?;
+    let what = puts_text(alloc, messages, row.puts)?;
+    put(&mut texts, alloc, "puts", Value::String(what))?;
+    let to = place_text(alloc, body, row.to)?;
+    put(&mut texts, alloc, "to", Value::String(to))?;
+    Ok(Value::Object(texts))
 }
 
 // The rows of a controller: an array.
@@ -71,11 +77,15 @@ fn message_value(
     ensures { IfOk result (λ v. view v ≡ json.message_data messages.now replies.now message
         info.now) }
 {
-    let carries = Value::String(carries_text(alloc, info.carries)?);
-    let name = name_text(info.name.bytes());
+    let mut parts = Map::new(alloc);
+    let carries = carries_text(alloc, info.carries)?;
+    put(&mut parts, alloc, "carries", Value::String(carries))?;
+    let name = Value::try_from_str(alloc, name_text(info.name.bytes()))?;
+    put(&mut parts, alloc, "name", name)?;
     let reply = reply_value(alloc, messages, reply_at(replies, message))?;
-    let up = info.up;
-    json!(in alloc; {"carries": carries, "name": name, "reply": reply, "up": up})
+    put(&mut parts, alloc, "reply", reply)?;
+    put(&mut parts, alloc, "up", Value::Bool(info.up))?;
+    Ok(Value::Object(parts))
 }
 
 // The messages: an array.
@@ -97,14 +107,18 @@ fn messages_value(
 fn table_value(alloc: Global, table: &Table) -> Result<Value, AllocError>
     ensures { IfOk result (λ v. view v ≡ json.table_data table.now) }
 {
+    let mut parts = Map::new(alloc);
     let home = rows_value(alloc, table.messages(), table.home())?;
+    put(&mut parts, alloc, "home", home)?;
     let messages = messages_value(alloc, table.messages(), table.replies())?;
-    let mode = mode_text(table.mode());
-    let name = name_text(table.name().bytes());
+    put(&mut parts, alloc, "messages", messages)?;
+    let mode = Value::try_from_str(alloc, mode_text(table.mode()))?;
+    put(&mut parts, alloc, "mode", mode)?;
+    let name = Value::try_from_str(alloc, name_text(table.name().bytes()))?;
+    put(&mut parts, alloc, "name", name)?;
     let remote = rows_value(alloc, table.messages(), table.remote())?;
-    json!(in alloc; {
-        "home": home, "messages": messages, "mode": mode, "name": name, "remote": remote
-    })
+    put(&mut parts, alloc, "remote", remote)?;
+    Ok(Value::Object(parts))
 }
 
 // The whole JSON, with its LF.

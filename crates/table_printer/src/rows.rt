@@ -1,6 +1,7 @@
 //! The five texts of a row.
 
-ghost use Rattle.std.specs.Prelude.{◌≡◌, string_bytes, IfOk};
+ghost use Rattle.std.specs.Prelude.{◌≡◌, ◌++◌, decimal, string_bytes, IfOk};
+ghost use Rattle.proto_model.specs.Texts.{message_name as name_of};
 ghost use Rattle.table_printer.specs.RowText as texts;
 
 use crate::names::name_text;
@@ -36,6 +37,26 @@ pub(crate) fn place_text(alloc: Global, body: &Body, place: Place) -> Result<Str
     }
 }
 
+// The word and the number behind it.
+fn numbered(alloc: Global, word: &str, number: u8) -> Result<String, AllocError>
+    ensures { IfOk result (λ t. string_bytes t ≡ word.now ++ decimal number) }
+{
+    format!(in alloc; "{word}{number}")
+}
+
+// The word and the name of the message behind it.
+fn with_name(
+    alloc: Global,
+    word: &str,
+    messages: &[MessageInfo],
+    message: u8,
+) -> Result<String, AllocError>
+    ensures { IfOk result (λ t. string_bytes t ≡ word.now ++ name_of messages.now message) }
+{
+    let name = name_text(message_name(messages, message));
+    format!(in alloc; "{word}{name}")
+}
+
 /// What makes the row move.
 pub(crate) fn trigger_text(
     alloc: Global,
@@ -45,18 +66,15 @@ pub(crate) fn trigger_text(
     ensures { IfOk result (λ t. string_bytes t ≡ texts.trigger_text messages.now trigger) }
 {
     match trigger {
-        Trigger::Tau(guard) => format!(in alloc; "tau {guard}"),
-        Trigger::Send(guard) => format!(in alloc; "send {guard}"),
-        Trigger::Pay(guard) => format!(in alloc; "pay {guard}"),
-        Trigger::Take(guard) => format!(in alloc; "take {guard}"),
-        Trigger::Answer(guard) => format!(in alloc; "answer {guard}"),
+        Trigger::Tau(guard) => numbered(alloc, "tau ", guard),
+        Trigger::Send(guard) => numbered(alloc, "send ", guard),
+        Trigger::Pay(guard) => numbered(alloc, "pay ", guard),
+        Trigger::Take(guard) => numbered(alloc, "take ", guard),
+        Trigger::Answer(guard) => numbered(alloc, "answer ", guard),
         Trigger::AnswerNone => String::from_str(alloc, "answer none"),
         Trigger::GotAck => String::from_str(alloc, "got ack"),
         Trigger::GotNack => String::from_str(alloc, "got nack"),
-        Trigger::GotReply(message) => {
-            let name = name_text(message_name(messages, message));
-            format!(in alloc; "got reply {name}")
-        }
+        Trigger::GotReply(message) => with_name(alloc, "got reply ", messages, message),
         Trigger::GotRequest => String::from_str(alloc, "got request"),
     }
 }
@@ -71,20 +89,11 @@ pub(crate) fn puts_text(
 {
     match puts {
         Puts::Nothing => String::from_str(alloc, "nothing"),
-        Puts::Request(message) => {
-            let name = name_text(message_name(messages, message));
-            format!(in alloc; "request {name}")
-        }
+        Puts::Request(message) => with_name(alloc, "request ", messages, message),
         Puts::Ack => String::from_str(alloc, "ack"),
         Puts::Nack => String::from_str(alloc, "nack"),
-        Puts::Reply(message) => {
-            let name = name_text(message_name(messages, message));
-            format!(in alloc; "reply {name}")
-        }
-        Puts::Owe(message) => {
-            let name = name_text(message_name(messages, message));
-            format!(in alloc; "owe {name}")
-        }
+        Puts::Reply(message) => with_name(alloc, "reply ", messages, message),
+        Puts::Owe(message) => with_name(alloc, "owe ", messages, message),
     }
 }
 
