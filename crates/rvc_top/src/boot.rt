@@ -26,7 +26,7 @@ use std::alloc::Global;
 const IMAGE_LIMIT: usize = 262_144;
 
 /// What an image holds: a well-formed protocol, and the mode in which it was compiled.
-#[derive(Debug, Drop)]
+#[derive(Drop)]
 pub struct Booted {
     pub checked: Checked,
     pub mode: Mode,

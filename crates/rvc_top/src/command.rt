@@ -1,10 +1,10 @@
 //! The words of the command line.
 
-ghost use Rattle.std.specs.Prelude.{◌≡◌, ◌≤◌, map, string_bytes, IfSome};
+ghost use Rattle.std.specs.Prelude.{◌≡◌, ◌≤◌, ◌∷◌, [], map, string_bytes, IfSome};
 ghost use Rattle.std.specs.Option.{option_map, option_and_then};
 ghost use Rattle.rv_base.specs.Numbers.{number_of};
 ghost use Rattle.rvc_top.specs.Words.{meaning, unless_zero, slots_of, mode_of, example_of};
-ghost use Rattle.rvc_top.specs.Words.{drive_of};
+ghost use Rattle.rvc_top.specs.Words.{drive_of, run_of, lossy_of, lines_of};
 ghost use Rattle.rvc_top.specs.Commands.{describe, AreDrivable};
 
 use crate::Example;
@@ -129,6 +129,118 @@ fn driving_in(n: &str, k: &str, mode: &str, turns: &str, seed: &str) -> Option<D
     })
 }
 
+// The command that these words mean.
+fn of_two(name: &str, word: &str) -> Option<Command>
+    ensures means { result ≡ meaning (name.now ∷ word.now ∷ []) }
+    ensures limits { (describe result).Numbers }
+{
+    match name {
+        "print" => Some(Command::Print),
+        "check" => Some(Command::Check),
+        "example" => Some(Command::Example(example_in(word)?)),
+        _ => None,
+    }
+}
+
+// The command that these words mean, whatever the path between them is.
+fn of_three(name: &str, word: &str) -> Option<Command>
+    ensures means { result ≡ meaning (name.now ∷ [] ∷ word.now ∷ []) }
+    ensures limits { (describe result).Numbers }
+{
+    match name {
+        "rv" => Some(Command::Rv(some_in(word.as_bytes(), 64)?)),
+        "audit" => Some(Command::Audit(some_in(word.as_bytes(), 64)?)),
+        "store" => Some(Command::Store(mode_in(word)?)),
+        "table" => Some(Command::TableText(mode_in(word)?)),
+        "json" => Some(Command::TableJson(mode_in(word)?)),
+        _ => None,
+    }
+}
+
+// The command that these words mean, whatever the path between the first two is.
+fn of_four(name: &str, n: &str, k: &str) -> Option<Command>
+    ensures means { result ≡ meaning (name.now ∷ [] ∷ n.now ∷ k.now ∷ []) }
+    ensures limits { (describe result).Numbers }
+{
+    match name {
+        "boot" => Some(Command::Boot(some_in(n.as_bytes(), 64)?, slots_in(k.as_bytes())?)),
+        _ => None,
+    }
+}
+
+// The command that 'run' and these words mean.
+fn run_in(n: &str, k: &str, mode: &str) -> Option<Command>
+    ensures means { result ≡ run_of n.now k.now mode.now }
+    ensures limits { (describe result).Numbers }
+{
+    Some(Command::Run(
+        some_in(n.as_bytes(), 64)?,
+        slots_in(k.as_bytes())?,
+        mode_in(mode)?,
+    ))
+}
+
+// The command that 'lossy' and these words mean.
+fn lossy_in(n: &str, k: &str, mode: &str) -> Option<Command>
+    ensures means { result ≡ lossy_of n.now k.now mode.now }
+    ensures limits { (describe result).Numbers }
+{
+    Some(Command::Lossy(
+        some_in(n.as_bytes(), 64)?,
+        slots_in(k.as_bytes())?,
+        mode_in(mode)?,
+    ))
+}
+
+// The command that 'lines' and these words mean.
+fn lines_in(n: &str, k: &str, mode: &str, count: &str) -> Option<Command>
+    ensures means { result ≡ lines_of n.now k.now mode.now count.now }
+    ensures limits { (describe result).Numbers }
+{
+    Some(Command::Lines(
+        some_in(n.as_bytes(), 64)?,
+        slots_in(k.as_bytes())?,
+        mode_in(mode)?,
+        some_in(count.as_bytes(), 16)?,
+    ))
+}
+
+// The command that these words mean, whatever the path between the first two is.
+fn of_five(name: &str, n: &str, k: &str, mode: &str) -> Option<Command>
+    ensures means { result ≡ meaning (name.now ∷ [] ∷ n.now ∷ k.now ∷ mode.now ∷ []) }
+    ensures limits { (describe result).Numbers }
+{
+    match name {
+        "run" => run_in(n, k, mode),
+        "lossy" => lossy_in(n, k, mode),
+        _ => None,
+    }
+}
+
+// The command that these words mean, whatever the path between the first two is.
+fn of_six(name: &str, n: &str, k: &str, mode: &str, count: &str) -> Option<Command>
+    ensures means { result
+        ≡ meaning (name.now ∷ [] ∷ n.now ∷ k.now ∷ mode.now ∷ count.now ∷ []) }
+    ensures limits { (describe result).Numbers }
+{
+    match name {
+        "lines" => lines_in(n, k, mode, count),
+        _ => None,
+    }
+}
+
+// The command that these words mean, whatever the path between the first two is.
+fn of_seven(name: &str, n: &str, k: &str, mode: &str, turns: &str, seed: &str) -> Option<Command>
+    ensures means { result
+        ≡ meaning (name.now ∷ [] ∷ n.now ∷ k.now ∷ mode.now ∷ turns.now ∷ seed.now ∷ []) }
+    ensures limits { (describe result).Numbers }
+{
+    match name {
+        "drive" => Some(Command::Drive(driving_in(n, k, mode, turns, seed)?)),
+        _ => None,
+    }
+}
+
 /// The command that the words after the program's name mean, or `None` where they have no form.
 /// Takes no memory.
 pub fn words_mean(words: &[String]) -> Option<Command>
@@ -136,39 +248,12 @@ pub fn words_mean(words: &[String]) -> Option<Command>
     ensures limits { (describe result).Numbers }
 {
     match words {
-        [name, _path] if name.as_str() == "print" => Some(Command::Print),
-        [name, _path] if name.as_str() == "check" => Some(Command::Check),
-        [name, which] if name.as_str() == "example" => Some(Command::Example(example_in(which)?)),
-        [name, _path, n] if name.as_str() == "rv" => Some(Command::Rv(some_in(n.as_bytes(), 64)?)),
-        [name, _path, n] if name.as_str() == "audit" => {
-            Some(Command::Audit(some_in(n.as_bytes(), 64)?))
-        }
-        [name, _path, mode] if name.as_str() == "store" => Some(Command::Store(mode_in(mode)?)),
-        [name, _path, n, k] if name.as_str() == "boot" => Some(Command::Boot(
-            some_in(n.as_bytes(), 64)?,
-            slots_in(k.as_bytes())?,
-        )),
-        [name, _path, n, k, mode] if name.as_str() == "run" => Some(Command::Run(
-            some_in(n.as_bytes(), 64)?,
-            slots_in(k.as_bytes())?,
-            mode_in(mode)?,
-        )),
-        [name, _path, n, k, mode] if name.as_str() == "lossy" => Some(Command::Lossy(
-            some_in(n.as_bytes(), 64)?,
-            slots_in(k.as_bytes())?,
-            mode_in(mode)?,
-        )),
-        [name, _path, n, k, mode, count] if name.as_str() == "lines" => Some(Command::Lines(
-            some_in(n.as_bytes(), 64)?,
-            slots_in(k.as_bytes())?,
-            mode_in(mode)?,
-            some_in(count.as_bytes(), 16)?,
-        )),
-        [name, _path, n, k, mode, turns, seed] if name.as_str() == "drive" => {
-            Some(Command::Drive(driving_in(n, k, mode, turns, seed)?))
-        }
-        [name, _path, mode] if name.as_str() == "table" => Some(Command::TableText(mode_in(mode)?)),
-        [name, _path, mode] if name.as_str() == "json" => Some(Command::TableJson(mode_in(mode)?)),
+        [name, word] => of_two(name, word),
+        [name, _path, word] => of_three(name, word),
+        [name, _path, n, k] => of_four(name, n, k),
+        [name, _path, n, k, mode] => of_five(name, n, k, mode),
+        [name, _path, n, k, mode, count] => of_six(name, n, k, mode, count),
+        [name, _path, n, k, mode, turns, seed] => of_seven(name, n, k, mode, turns, seed),
         _ => None,
     }
 }

@@ -19,7 +19,7 @@ use std::alloc::Global;
 const SYNTAX: u8 = 1;
 
 /// What reading the protocol file came to.
-#[derive(Debug, Drop)]
+#[derive(Drop)]
 pub enum FileRead<V> {
     /// It holds this value.
     Holds(V),

@@ -1,7 +1,12 @@
 //! The commands that read the protocol file alone, and the text of each.
 
+ghost use Rattle.std.specs.Prelude.{◌≡◌, IfOk};
+ghost use Rattle.table_printer.specs.TableJson as of_json;
+ghost use Rattle.table_printer.specs.TableText as of_text;
+
 use crate::Driving;
 use crate::file_command::FileCommand;
+use controller_table::Table;
 use drive_report::{drive, summary_text};
 use home_refine::compile;
 use proto_model::{Mode, Protocol};
@@ -11,7 +16,7 @@ use std::alloc::Global;
 use table_printer::{table_json, table_text};
 
 /// The laid-out text of the protocol.
-#[derive(Clone, Copy, Debug)]
+#[derive(Clone, Copy)]
 pub struct Print;
 
 impl FileCommand for Print {
@@ -31,7 +36,7 @@ impl FileCommand for Print {
 }
 
 /// That the protocol is well-formed, and the numbers of its parts.
-#[derive(Clone, Copy, Debug)]
+#[derive(Clone, Copy)]
 pub struct Check;
 
 impl FileCommand for Check {
@@ -66,7 +71,7 @@ impl FileCommand for Check {
 }
 
 /// The text of the protocol's table in this mode.
-#[derive(Clone, Copy, Debug)]
+#[derive(Clone, Copy)]
 pub struct TableText(pub Mode);
 
 impl FileCommand for TableText {
@@ -80,14 +85,22 @@ impl FileCommand for TableText {
     ghost text = { λ command checked. of_text.table_text (table_in checked.protocol command.0) };
 
     fn text(&self, alloc: Global, checked: &Checked) -> Result<Vec<u8>, NoMemory> {
-        let mut text = Vec::new(alloc);
-        table_text(alloc, &compile(alloc, checked, self.0)?, &mut text)?;
-        Ok(text)
+        let table = compile(alloc, checked, self.0)?;
+        text_of(alloc, &table)
     }
 }
 
+// The text of the table.
+fn text_of(alloc: Global, table: &Table) -> Result<Vec<u8>, NoMemory>
+    ensures { IfOk result (λ bytes. bytes.items ≡ of_text.table_text table.now) }
+{
+    let mut text = Vec::new(alloc);
+    table_text(alloc, table, &mut text)?;
+    Ok(text)
+}
+
 /// The JSON of the protocol's table in this mode.
-#[derive(Clone, Copy, Debug)]
+#[derive(Clone, Copy)]
 pub struct TableJson(pub Mode);
 
 impl FileCommand for TableJson {
@@ -101,10 +114,18 @@ impl FileCommand for TableJson {
     ghost text = { λ command checked. of_json.table_json (table_in checked.protocol command.0) };
 
     fn text(&self, alloc: Global, checked: &Checked) -> Result<Vec<u8>, NoMemory> {
-        let mut text = Vec::new(alloc);
-        table_json(alloc, &compile(alloc, checked, self.0)?, &mut text)?;
-        Ok(text)
+        let table = compile(alloc, checked, self.0)?;
+        json_of(alloc, &table)
     }
+}
+
+// The JSON of the table.
+fn json_of(alloc: Global, table: &Table) -> Result<Vec<u8>, NoMemory>
+    ensures { IfOk result (λ bytes. bytes.items ≡ of_json.table_json table.now) }
+{
+    let mut text = Vec::new(alloc);
+    table_json(alloc, table, &mut text)?;
+    Ok(text)
 }
 
 /// What is counted over a run of the protocol's controllers that a number chooses.

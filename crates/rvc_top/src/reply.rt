@@ -11,14 +11,14 @@ use crate::Status;
 use rv_base::{NoMemory, Sink, Wrote, write_whole};
 
 /// A text to be written, and how the run ends once it is.
-#[derive(Debug, Drop)]
+#[derive(Drop)]
 pub struct Reply {
     pub status: Status,
     pub text: Vec<u8>,
 }
 
 /// Why there is no reply.
-#[derive(Clone, Copy, Debug, PartialEq, Eq, Drop)]
+#[derive(Clone, Copy, Drop)]
 pub enum Failure {
     /// A read of the file failed, or of a trace that is audited.
     Read,

@@ -21,7 +21,7 @@ use trace_audit::{Audited, audit};
 
 /// The trace of a schedule of events on the rendezvous meaning of the protocol with so many
 /// remotes.
-#[derive(Clone, Copy, Debug)]
+#[derive(Clone, Copy)]
 pub struct Rv(pub u8);
 
 impl ScheduleCommand for Rv {
@@ -51,7 +51,7 @@ impl ScheduleCommand for Rv {
 
 /// The trace of a schedule of steps on the two controllers of the protocol with so many remotes and
 /// so many slots, in this mode.
-#[derive(Clone, Copy, Debug)]
+#[derive(Clone, Copy)]
 pub struct Run(pub u8, pub u8, pub Mode);
 
 impl ScheduleCommand for Run {
@@ -103,7 +103,7 @@ fn replay_run<Q: Source, O: Sink>(
 /// The trace of a schedule of steps and of moves of the network on the two controllers of the
 /// protocol with so many remotes and so many slots, in this mode, over links that lose, repeat and
 /// reorder.
-#[derive(Clone, Copy, Debug)]
+#[derive(Clone, Copy)]
 pub struct Lossy(pub u8, pub u8, pub Mode);
 
 impl ScheduleCommand for Lossy {
@@ -134,7 +134,7 @@ impl ScheduleCommand for Lossy {
 
 /// The trace of a schedule of steps on the two controllers of the protocol with so many remotes and
 /// so many slots, in this mode, for so many cache lines over the same links.
-#[derive(Clone, Copy, Debug)]
+#[derive(Clone, Copy)]
 pub struct Lines(pub u8, pub u8, pub Mode, pub u8);
 
 impl ScheduleCommand for Lines {
@@ -167,7 +167,7 @@ impl ScheduleCommand for Lines {
 }
 
 /// What `Run` does, for the protocol and the mode of a control store.
-#[derive(Clone, Copy, Debug)]
+#[derive(Clone, Copy)]
 pub struct Boot(pub u8, pub u8);
 
 impl ScheduleCommand for Boot {
@@ -204,7 +204,7 @@ impl ScheduleCommand for Boot {
 }
 
 /// What the rendezvous meaning of the protocol with so many remotes says of a trace of `Run`.
-#[derive(Clone, Copy, Debug)]
+#[derive(Clone, Copy)]
 pub struct Audit(pub u8);
 
 impl ScheduleCommand for Audit {
