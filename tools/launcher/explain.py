@@ -13,12 +13,14 @@ import subprocess
 from forms import READ_STANDARD_INPUT, path_in, shown, word_fault
 from protocol import END, NAME, NUMBER, RESERVED, Misfit, read_protocol
 from faults import first_fault, listed
+from refusals import refused_lines
 
 TOP = os.path.dirname(os.path.dirname(os.path.dirname(os.path.realpath(__file__))))
 SECONDS = 20
 FILE_LIMIT = 65536
 STORE_LIMIT = 262144
 LINE_LIMIT = 256
+SCHEDULE_LIMIT = 64 << 20
 TAIL = 1 << 20
 
 # Of each code: its name, what it means, and how to mend it.
@@ -96,10 +98,12 @@ SCHEDULES = {
 class Again:
     """Has the program answer once more, where what it read can be read once more."""
 
-    def __init__(self, program, words, start):
+    def __init__(self, program, words, start, copy=None, answer=None):
         """`start` is where standard input stood before the run, or None where it can't be read
-        again."""
+        again; `copy` a Copy of it, and `answer` the status and the end of the text, where they
+        were kept."""
         self.program, self.words, self.start = program, words, start
+        self.copy, self.answer = copy, answer
 
     def run(self, words, schedule=None):
         """The status and the end of the text of a run with these words; (None, b"") where it
@@ -138,6 +142,8 @@ class Again:
 
     def schedule(self):
         """Standard input from where it stood, as a descriptor of its own, or None."""
+        if self.copy is not None:
+            return self.copy.kept()
         if self.start is None:
             return None
         try:
@@ -150,6 +156,8 @@ class Again:
 
     def replay(self):
         """The answer to the schedule: the status and the end of the text."""
+        if self.answer is not None:
+            return self.answer
         again = self.schedule()
         if again is None:
             return None, b""
@@ -213,6 +221,25 @@ def explanation(words, status, again):
     if status == 7 and reads:
         return broken_claim(words[0], path, again)
     return []
+
+
+def refusals(words, seen, again):
+    """Lines that say which lines of a schedule were refused, and why the first one was. `seen` is
+    what was Seen of the trace."""
+    schedule, descriptor = None, again.schedule() if seen.refused else None
+    if descriptor is not None:
+        with open(descriptor, "rb") as file:
+            schedule = file.read(SCHEDULE_LIMIT).decode("latin-1")
+    text = again.file(words[1])
+    if text is not None and words[0] == "boot":
+        text = text_of_store(text)
+    return refused_lines(words, seen, schedule, text)
+
+
+def text_of_store(image):
+    """The text of the protocol in a control store: its head has 40 bytes, and the length of the
+    text is at byte 16."""
+    return image[40 : 40 + int.from_bytes(image[16:24].encode("latin-1"), "big")]
 
 
 def page(name, section=None):
@@ -547,9 +574,7 @@ def broken_claim(command, path, again):
     more = ["More: " + page("LANGUAGE.md", "Claims")]
     text, where = again.file(path), "%s:%d"
     if text is not None and command == "boot":
-        # The head of a control store has 40 bytes, and the length of its text at byte 16.
-        length = int.from_bytes(text[16:24].encode("latin-1"), "big")
-        text, where = text[40 : 40 + length], "%s, line %d of its text"
+        text, where = text_of_store(text), "%s, line %d of its text"
     claims, file = [], None
     if text is not None:
         try:
