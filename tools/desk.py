@@ -116,8 +116,11 @@ class Run:
     def give(self, lines):
         """Gives lines of the schedule. Answers the blocks: for each its words, what is said of it,
         and the Standings that it shows; they are noted too."""
-        blocks = []
-        for row in self.exchange(list(lines)):
+        blocks, rows, lines = [], [], list(lines)
+        for at in range(0, len(lines), 100):
+            # A few at a time, so that neither side waits for the other with a full pipe.
+            rows += self.exchange(lines[at:at + 100])
+        for row in rows:
             block, standing = BLOCK.fullmatch(row), standing_of(row)
             if block:
                 blocks.append((block.group(2), block.group(3), {}))

@@ -155,10 +155,10 @@ def main(words):
     quiet = os.environ.get("RVC_QUIET") == "1"
     copy = watch = None
     if path_in(words) is not None and words[0] in READ_STANDARD_INPUT:
-        if words[0] in SCHEDULES and is_writable():
-            watch = Watch()
         if not quiet and is_piped(program, words):
             copy = Copy()
+        if words[0] in SCHEDULES and is_writable():
+            watch = Watch()
         if not quiet and os.isatty(0) and os.isatty(2):
             await_terminal(words[0])
     try:

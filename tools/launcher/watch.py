@@ -3,6 +3,7 @@ need: `Seen` the trace up to its first refused line, and how many lines are refu
 same while it passes the trace on; `Copy` a copy of standard input where that can't be read a second
 time.
 """
+import fcntl
 import os
 import re
 import tempfile
@@ -14,6 +15,16 @@ KEPT = 64 << 20
 TAIL = 1 << 20
 REFUSED = re.compile(rb"^(\d+) ([^:\n]+): refused$", re.M)
 FIRST = re.compile(rb"^(\d+) [^:\n]+: ", re.M)
+
+
+def pipe():
+    """The ends of a new pipe, which are none of the standard streams, even if one of those is
+    closed."""
+    low = os.pipe()
+    high = [fcntl.fcntl(end, fcntl.F_DUPFD_CLOEXEC, 3) for end in low]
+    for end in low:
+        os.close(end)
+    return high
 
 
 class Seen:
@@ -47,7 +58,7 @@ class Watch(Seen):
     def __init__(self):
         super().__init__()
         self.failed = False
-        self.reader, self.writer = os.pipe()
+        self.reader, self.writer = pipe()
         self.thread = threading.Thread(target=self.pass_on, daemon=True)
 
     def begin(self):
@@ -77,7 +88,7 @@ class Copy:
     what the program waits for, so that the rest is left to whoever reads next."""
 
     def __init__(self):
-        self.reader, self.writer = os.pipe()
+        self.reader, self.writer = pipe()
         self.file = tempfile.TemporaryFile(prefix="rvc-input-")
         self.child, self.size = None, 0
 
