@@ -331,12 +331,23 @@ def without_target(file, process, guard):
         if named:
             return []
         text = "`%s` is `none` throughout, since no guard gives it a value" % name
-    elif partner.set is not None and not any(partner.set.text in writes(one) for one in guards):
+    elif partner.set is not None and not any(grows(partner.set.text, one) for one in guards):
         text = "`%s` is empty throughout, since no guard puts a remote into it" % partner.set.text
     else:
         return []
     return [Advice(guard.line, guard, "`%s` never meets a remote: %s. Assign to it before, or use "
                    "`any`." % (action_of(file, guard), text))]
+
+
+def grows(name, guard):
+    """Whether a guard may put a remote into a set: whether it binds it, or assigns more to it than
+    `empty` or itself without a remote."""
+    if guard.bound is not None and guard.bound.text == name:
+        return True
+    return any(assignment.variable.text == name and not (
+        assignment.value.operator == "-" and assignment.value.terms[0].text == name
+        or [term.text for term in assignment.value.terms] == ["empty"])
+               for assignment in guard.assignments)
 
 
 def idle_claims(file):

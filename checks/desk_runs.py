@@ -1,0 +1,1 @@
+"""Trials of checks/desk on the tools that look at runs: numbers and pages."""
