@@ -1,1 +1,118 @@
-"""Trials of checks/desk on the tools that look at runs: numbers and pages."""
+"""Trials of checks/desk on the tools that look at runs: tools/measure and tools/report."""
+import os
+import re
+import tempfile
+import xml.dom.minidom
+
+from desk_texts import example, kept
+
+FACTOR, TERM = 6364136223846793005, 1442695040888963407
+# Of a word of the summary of `drive`: the name of the row of tools/measure.
+SAME = {"steps": "steps", "events": "events", "requests": "requests", "acks": "acks",
+        "nacks": "nacks", "replies": "replies"}
+
+
+def lines_in_order(guards, remotes):
+    """All lines of steps in the order in which docs/FORMATS.md lists them for `drive`."""
+    ours, theirs, all_of = range(guards), range(guards), range(remotes)
+    lines = ["home tau %d" % guard for guard in ours] + ["home take %d" % one for one in all_of]
+    lines += ["home send %d %d" % (guard, one) for guard in ours for one in all_of]
+    lines += ["home drop %d" % one for one in all_of]
+    lines += ["remote %d tau %d" % (one, guard) for one in all_of for guard in theirs]
+    for what in ("send", "answer", "reply"):
+        lines += ["remote %d %s" % (one, what) for one in all_of]
+    return lines + ["up %d" % one for one in all_of] + ["down %d" % one for one in all_of]
+
+
+def driven_steps(tried, words, count, seed):
+    """The steps that `drive` takes, chosen by its numbers among those that the program takes."""
+    taken, x = [], seed
+    for _ in range(count):
+        offered, rest = [], lines_in_order(5, int(words[1]))
+        while rest:
+            # What is refused changes nothing, so one run asks on until a line is taken.
+            trace = tried.run([tried.program, "run"] + words, "\n".join(taken + rest) + "\n")[1]
+            said = re.findall(r"^\d+ [^:]+: (.*)$", trace, re.M)[len(taken):]
+            moved = next((at for at, one in enumerate(said) if one != "refused"), len(rest))
+            offered += rest[moved:moved + 1]
+            rest = rest[moved + 1:]
+        x = (FACTOR * x + TERM) % 2**64
+        if not offered:
+            break
+        taken.append(offered[(x >> 33) % len(offered)])
+    return taken
+
+
+def table_of(text):
+    """The rows of the table that tools/measure writes: names and columns."""
+    rows = {}
+    for row in text.splitlines():
+        found = re.match(r"( ?\S.*?)  +(\S.*)$", row)
+        if found and not row.startswith("  "):
+            rows.setdefault(found.group(1), re.split("  +", found.group(2)))
+    return rows
+
+
+def try_measure(tried):
+    """The counts of `drive` over the steps that it takes; runs by hand; a sweep, its picture."""
+    for words, count, seed in ((["migratory.rv", "2", "2", "lean"], 40, 7),
+                               (["invalidate.rv", "2", "2", "plain"], 40, 3)):
+        words = [example(words[0])] + words[1:]
+        drive = dict(row.split(" ") for row in tried.rvc(
+            ["drive"] + words + [str(count), str(seed)]).splitlines())
+        steps = driven_steps(tried, words, count, seed)
+        found = tried.tool("measure", [words[0], words[1], words[3], words[2], "--steps", "-"],
+                           "\n".join(steps) + "\n")
+        rows = table_of(found[1])
+        for word, name in SAME.items():
+            tried.see("measure, %s of %s" % (word, words), rows.get(name) == [drive[word]],
+                      (rows.get(name), drive[word], found[2]))
+    rows = table_of(tried.tool("measure", [example("migratory.rv"), "1", "lean", "2", "--steps",
+                                           example("migratory.steps")])[1])
+    # The request is sent by step 2, taken by step 4 and answered by step 5, the last event.
+    by_hand = {"steps": "6", "events": "3", "packets an event": "0.67", "steps until taken, most": "2",
+               "requests of remotes taken": "1", "steps until answered, most": "3",
+               "longest wait, remote 0": "2", "last event at step": "5"}
+    tried.see("measure by hand", {name: rows[name][0] for name in by_hand} == by_hand, rows)
+    try_sweep(tried)
+    for words, status in ((["x.rv", "2", "lean", "2"], 1), ([example("lock.rv"), "65", "lean", "2"], 1),
+                          ([example("lock.rv"), "2", "lean"], 2), ([example("lock.rv"), "2", "2"], 2),
+                          ([example("lock.rv"), "2", "lean", "2", "--steps", "no such"], 1)):
+        found = tried.tool("measure", words)
+        tried.see("measure %s" % words[1:], found[0] == status and found[2], found)
+    if tried.run([tried.program, "schedule", example("lock.rv"), "2", "2", "lean", "9", "1"])[0] == 0:
+        words = [example("lock.rv"), "3", "2", "lean"]
+        drive = dict(row.split(" ") for row in tried.rvc(
+            ["drive"] + words + ["3000", "5"]).splitlines())
+        rows = table_of(tried.tool("measure", [words[0], "3", "lean", "2", "--count", "3000", "--seed",
+                                               "5"])[1])
+        tried.see("measure over `schedule`", all(rows[name] == [drive[word]]
+                                                 for word, name in SAME.items()), rows)
+    else:
+        print("desk: not tried: measure over `schedule`, which this program doesn't have")
+
+
+def try_sweep(tried):
+    """A sweep of modes and slots: its columns, that it is the same twice, its picture."""
+    with tempfile.TemporaryDirectory() as folder:
+        name = os.path.join(folder, "picture.svg")
+        words = [example("library/mi.rv"), "3", "plain", "lean", "2", "3", "--count", "300", "--svg", name]
+        found = tried.tool("measure", words)
+        rows = table_of(found[1])
+        tried.see("measure: a sweep", found[0] == 0 and len(rows["events"]) == 4
+                  and rows["replies"][:2] == ["0", "0"] and rows["steps"] == 4 * ["300"], found)
+        tried.see("measure: twice the same", tried.tool("measure", words)[1] == found[1], "it differs")
+        with open(name, encoding="ascii") as file:
+            picture = file.read()
+        groups = xml.dom.minidom.parseString(picture).getElementsByTagName("g")
+        tried.see("measure: a picture", len(groups) == 5, len(groups))
+        # A wait for which nothing ever comes: the request of a remote that nobody takes.
+        found = tried.tool("measure", [example("small.rv"), "1", "plain", "2", "--steps", "-"],
+                           "remote 0 send\nup 0\n" + "up 0\n" * 5)
+        rows = table_of(found[1])
+        tried.see("measure: a wait without end", rows["longest wait, remote 0"] == ["1+"], rows)
+    stutters = "home send 0 0\ndown 0\nremote 0 answer\nup 0\n" * 500
+    with kept("protocol p; message a down; home { var j node = none; start H; state H { to any j ! a goto "
+              "H; } } remote { start R; state R { } }") as path:
+        found = tried.tool("measure", [path, "1", "plain", "2", "--steps", "-"], stutters)
+    tried.see("measure: nothing happens", "no event in the last 2000 steps" in found[1], found[1][-300:])
