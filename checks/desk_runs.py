@@ -1,6 +1,10 @@
 """Trials of checks/desk on the tools that look at runs: tools/measure and tools/report."""
+import html.parser
+import json
 import os
 import re
+import shutil
+import subprocess
 import tempfile
 import xml.dom.minidom
 
@@ -116,3 +120,122 @@ def try_sweep(tried):
               "H; } } remote { start R; state R { } }") as path:
         found = tried.tool("measure", [path, "1", "plain", "2", "--steps", "-"], stutters)
     tried.see("measure: nothing happens", "no event in the last 2000 steps" in found[1], found[1][-300:])
+
+
+class Page(html.parser.HTMLParser):
+    """A page: whether its elements are closed in order, and what it has."""
+
+    def __init__(self, text):
+        super().__init__()
+        self.open, self.wrong, self.nodes, self.links, self.hidden, self.rows = [], [], [], [], 0, 0
+        self.texts = {}
+        self.feed(text)
+
+    def handle_starttag(self, tag, attributes):
+        values = dict(attributes)
+        if tag not in ("meta", "input"):
+            self.open.append((tag, values))
+        self.links += [value for name, value in attributes if name in ("src", "href")]
+        if "data-node" in values:
+            self.nodes.append(values["data-node"])
+        if tag == "tr" and any(values.get("class") == "rows" for _, values in self.open):
+            self.rows += 1
+            self.hidden += "hidden" in values
+
+    def handle_startendtag(self, tag, attributes):
+        self.handle_starttag(tag, attributes)
+        self.handle_endtag(tag)
+
+    def handle_endtag(self, tag):
+        if tag in ("meta", "input"):
+            return
+        if not self.open or self.open.pop()[0] != tag:
+            self.wrong.append(tag)
+
+    def handle_data(self, data):
+        for _, values in self.open:
+            if "id" in values:
+                self.texts[values["id"]] = self.texts.get(values["id"], "") + data
+
+
+def try_report(tried):
+    """A page for examples: its graphs, its tables, its trace; and in Chromium, if that is there."""
+    for name, words, steps in (("migratory.rv", ["1", "2", "lean"], "migratory.steps"),
+                               ("invalidate.rv", ["4", "2", "lean"], "invalidate.steps"),
+                               ("library/barrier.rv", ["2", "2", "plain"], None)):
+        path = example(name)
+        with tempfile.TemporaryDirectory() as folder:
+            out = os.path.join(folder, "page.html")
+            call = [path] + words + (["--steps", example(steps)] if steps else []) + ["-o", out]
+            found = tried.tool("report", call)
+            if not tried.see("report " + name, found == (0, "", ""), found):
+                continue
+            with open(out, encoding="utf-8") as file:
+                text = file.read()
+            try_page(tried, name, path, text)
+            if steps:
+                with open(example(steps), encoding="latin-1") as file:
+                    try_player(tried, name, [path] + words, file.read(), text)
+            if name == "migratory.rv":
+                try_chromium(tried, path, words, out)
+    for words, status in ((["no such", "-o", "x"], 1), ([path], 2), ([path, "2", "-o", "x"], 2),
+                          ([path, "2", "1", "lean", "-o", "x"], 1)):
+        tried.see("report %s" % words[1:], tried.tool("report", words)[0] == status, "status")
+
+
+def try_page(tried, name, path, text):
+    """A page is whole, names nothing outside, and has each state and each row."""
+    page = Page(text)
+    tried.see("report: elements, " + name, not page.open and not page.wrong, (page.open, page.wrong))
+    tried.see("report: alone, " + name, not page.links and "http" not in text.replace(
+        "http://www.w3.org/2000/svg", ""), page.links)
+    states = re.fullmatch(r"ok \S+ messages \d+ home (\d+) remote (\d+)\n", tried.rvc(["check", path]))
+    tried.see("report: states, " + name, len(page.nodes) == sum(map(int, states.groups())), page.nodes)
+    tables = [json.loads(tried.rvc(["json", path, mode])) for mode in ("plain", "lean")]
+    rows = sum(len(table["home"]) + len(table["remote"]) for table in tables)
+    # Each of the two tables has a row of titles.
+    tried.see("report: rows, " + name, page.rows == rows + 2, (page.rows, rows))
+
+
+def try_player(tried, name, words, steps, text):
+    """The trace to play ends where `run` ends, and has a picture for each step."""
+    shots = json.loads(Page(text).texts["shots"])
+    trace = tried.rvc(["run"] + words, steps)
+    end = [re.sub(r"^  (home|remote \d+) ", "", row)
+           for row in trace.partition("\nend\n")[2].partition("abstract")[0].splitlines()]
+    tried.see("report: the end, " + name, [one[0] for one in shots[-1]["at"]] == end,
+              (shots[-1]["at"], end))
+    told = re.findall(r"^(\d+ [^:\n]+): (.*)$", trace, re.M)
+    tried.see("report: steps, " + name, [(shot["step"], shot["said"]) for shot in shots[1:]] == told,
+              "other steps")
+
+
+def try_chromium(tried, path, words, out):
+    """In Chromium: the script shows step 4 and the rows with a nack; a picture of the page."""
+    browser = next(filter(None, map(shutil.which, ("chromium", "chromium-browser", "google-chrome"))), None)
+    if browser is None:
+        print("desk: not tried: the page in Chromium, which isn't installed")
+        return
+    folder = os.path.dirname(out)
+    picture = os.path.join(folder, "page.png")
+    command = [browser, "--headless", "--no-sandbox", "--disable-gpu", "--user-data-dir=" + folder,
+               "--window-size=1300,2400", "--virtual-time-budget=3000"]
+    where = "file://%s#step=4&filter=nack" % out
+    done = subprocess.run(command + ["--dump-dom", where], stdout=subprocess.PIPE, timeout=120,
+                          stderr=subprocess.DEVNULL, check=False)
+    page = Page(done.stdout.decode("utf-8"))
+    # By hand, from docs/REFINEMENT.md: step 4 takes the request, and the remote is in R*.
+    tried.see("report in Chromium: the step", page.texts.get("step") == "4 home take 0"
+              and page.texts.get("said") == "up 0 0 0 req"
+              and "G o=none j=#0 d=0 held[] owed[0:gr]" in page.texts.get("standing", ""), page.texts.get(
+                  "standing"))
+    rows = [row for mode in ("plain", "lean") for row in re.findall(
+        r"^  .*", tried.rvc(["table", path, mode]), re.M)]
+    expected = sum("nack" in row for row in rows)
+    tried.see("report in Chromium: the filter", page.rows - 2 - page.hidden == expected
+              and page.texts.get("shown") == "%d of %d rows" % (expected, len(rows)),
+              (page.texts.get("shown"), expected))
+    subprocess.run(command + ["--screenshot=" + picture, where], stdout=subprocess.DEVNULL,
+                   stderr=subprocess.DEVNULL, timeout=120, check=False)
+    good = os.path.exists(picture) and os.path.getsize(picture) > 20000
+    tried.see("report in Chromium: a picture", good, "no picture, or an empty one")

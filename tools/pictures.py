@@ -53,3 +53,72 @@ def picture(groups):
             '<style>text{font:12px sans-serif;fill:#222}.title{font-weight:bold}</style>\n'
             '<rect width="100%%" height="100%%" fill="#fff"/>\n%s\n</svg>\n' % (
                 width, y, width, y, "\n".join(parts)))
+
+
+# Graphs. States are set in columns by how far they are from the start.
+
+NODE, TALL, COLUMN, LINE = 120, 30, 250, 13
+
+
+def places(part):
+    """Of each node of a Part of tools/graph its column and its row."""
+    depth, todo = {}, [(part.start, 0)] if part.start else []
+    while todo:
+        at, far = todo.pop(0)
+        if at not in depth:
+            depth[at] = far
+            todo += [(to, far + 1) for one, to in part.edges if one == at]
+    last = max(depth.values(), default=-1)
+    rows, found = {}, {}
+    for node in part.nodes:
+        column = depth.get(node, last + 1)
+        found[node] = (column, rows.get(column, 0))
+        rows[column] = rows.get(column, 0) + 1
+    return found
+
+
+def graph(part):
+    """A graph as a group of SVG, its width and its height. Nodes to which no path leads are grey."""
+    where, lost = places(part), part.unreachable() if part.start else set()
+    tall = 60 + LINE * max([len(lines) for lines in part.edges.values()] + [1])
+
+    def middle_of(node):
+        column, row = where[node]
+        return 70 + column * COLUMN, 60 + row * tall + (column % 2) * 24
+
+    edges, labels = [], []
+    for (at, to), lines in part.edges.items():
+        (x, y), (u, v) = middle_of(at), middle_of(to)
+        path, label_x, label_y = curve(x, y, u, v)
+        edges.append('<path d="%s" class="edge%s" marker-end="url(#tip)"/>' % (
+            path, " lost" if at in lost else ""))
+        for number, line in enumerate(lines):
+            text = line if len(line) <= 34 else line[:32] + ".."
+            labels.append('<g><title>%s</title>%s</g>' % (html.escape(line), text_at(
+                label_x, label_y + number * LINE, text, ' class="label" text-anchor="middle"')))
+    nodes = []
+    for node, kind in part.nodes.items():
+        x, y = middle_of(node)
+        wide = max(NODE, 8 * len(node) + 16)
+        nodes.append('<g data-node="%s" class="node %s%s%s"><rect x="%g" y="%g" width="%g" height="%d" '
+                     'rx="8"/>%s</g>' % (html.escape(node), kind, " lost" if node in lost else "",
+                                         " first" if node == part.start else "", x - wide / 2,
+                                         y - TALL / 2, wide, TALL,
+                                         text_at(x, y + 4, node, ' text-anchor="middle"')))
+    columns = max([column for column, _ in where.values()] + [0]) + 1
+    rows = max([row for _, row in where.values()] + [0]) + 1
+    return "\n".join(edges + labels + nodes), columns * COLUMN, rows * tall + 70
+
+
+def curve(x, y, u, v):
+    """The path of an edge between the middles of two nodes, and where its label is."""
+    if (x, y) == (u, v):
+        return ("M%g,%g c-30,-44 30,-44 6,-2" % (x - 14, y - TALL / 2), x, y - TALL / 2 - 34)
+    if u > x:
+        return ("M%g,%g C%g,%g %g,%g %g,%g" % (x + NODE / 2, y, x + NODE / 2 + 50, y, u - NODE / 2 - 50, v,
+                                               u - NODE / 2 - 4, v),
+                x + (u - x) / 2, y + (v - y) / 2 - 6)
+    bend = 46 + (x - u) / 14
+    return ("M%g,%g C%g,%g %g,%g %g,%g" % (x, y + TALL / 2, x, y + TALL / 2 + bend, u, v + TALL / 2 + bend,
+                                           u + 8, v + TALL / 2 + 4),
+            x + (u - x) / 2, max(y, v) + TALL / 2 + bend * 0.62)
