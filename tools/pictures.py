@@ -1,5 +1,6 @@
 """Pictures as SVG: bars, without anything to install."""
 import html
+import re
 
 COLOURS = ["#4269d0", "#efb118", "#ff725c", "#6cc5b0", "#9c6b4e", "#a463f2", "#97bbf5", "#3ca951"]
 ROW, LEFT, WIDE, HEAD = 22, 170, 460, 30
@@ -57,7 +58,7 @@ def picture(groups):
 
 # Graphs. States are set in columns by how far they are from the start.
 
-NODE, TALL, COLUMN, LINE = 120, 30, 250, 13
+NODE, TALL, COLUMN, LINE = 120, 30, 240, 13
 
 
 def places(part):
@@ -80,7 +81,7 @@ def places(part):
 def graph(part):
     """A graph as a group of SVG, its width and its height. Nodes to which no path leads are grey."""
     where, lost = places(part), part.unreachable() if part.start else set()
-    tall = 60 + LINE * max([len(lines) for lines in part.edges.values()] + [1])
+    tall = 56 + LINE * max([len(guard_labels(lines)) for lines in part.edges.values()] + [1])
 
     def middle_of(node):
         column, row = where[node]
@@ -92,9 +93,8 @@ def graph(part):
         path, label_x, label_y = curve(x, y, u, v)
         edges.append('<path d="%s" class="edge%s" marker-end="url(#tip)"/>' % (
             path, " lost" if at in lost else ""))
-        for number, line in enumerate(lines):
-            text = line if len(line) <= 34 else line[:32] + ".."
-            labels.append('<g><title>%s</title>%s</g>' % (html.escape(line), text_at(
+        for number, (text, whole) in enumerate(guard_labels(lines)):
+            labels.append('<g><title>%s</title>%s</g>' % (html.escape(whole), text_at(
                 label_x, label_y + number * LINE, text, ' class="label" text-anchor="middle"')))
     nodes = []
     for node, kind in part.nodes.items():
@@ -110,6 +110,25 @@ def graph(part):
     return "\n".join(edges + labels + nodes), columns * COLUMN, rows * tall + 70
 
 
+def guard_labels(lines):
+    """Of each guard in the lines of an edge a short text, as `0 ?ask` or `1 !grant`, and its whole
+    text."""
+    guards = []
+    for line in lines:
+        if re.match(r"\d+: ", line) or not guards:
+            guards.append([line])
+        else:
+            guards[-1].append(line)
+    found = []
+    for guard in guards:
+        short = re.sub(r"^(\d+): (?:(?:from|to) [^?!]* ([?!]) ([A-Za-z0-9_]+).*|(tau))$",
+                       lambda one: "%s %s" % (one.group(1), one.group(4) or one.group(2)
+                                              + one.group(3)), guard[0])
+        more = any(line.startswith("when") for line in guard)
+        found.append((short + (" if" if more else ""), "\n".join(guard)))
+    return found
+
+
 def curve(x, y, u, v):
     """The path of an edge between the middles of two nodes, and where its label is."""
     if (x, y) == (u, v):
@@ -118,7 +137,11 @@ def curve(x, y, u, v):
         return ("M%g,%g C%g,%g %g,%g %g,%g" % (x + NODE / 2, y, x + NODE / 2 + 50, y, u - NODE / 2 - 50, v,
                                                u - NODE / 2 - 4, v),
                 x + (u - x) / 2, y + (v - y) / 2 - 6)
+    if u == x:
+        side = x + NODE / 2
+        return ("M%g,%g C%g,%g %g,%g %g,%g" % (side, y, side + 56, y, side + 56, v, side + 4, v),
+                side + 46, (y + v) / 2)
     bend = 46 + (x - u) / 14
     return ("M%g,%g C%g,%g %g,%g %g,%g" % (x, y + TALL / 2, x, y + TALL / 2 + bend, u, v + TALL / 2 + bend,
                                            u + 8, v + TALL / 2 + 4),
-            x + (u - x) / 2, max(y, v) + TALL / 2 + bend * 0.62)
+            x + (u - x) * 0.3, y + (v - y) * 0.3 + TALL / 2 + bend * 0.7)
