@@ -239,3 +239,46 @@ def try_chromium(tried, path, words, out):
                    stderr=subprocess.DEVNULL, timeout=120, check=False)
     good = os.path.exists(picture) and os.path.getsize(picture) > 20000
     tried.see("report in Chromium: a picture", good, "no picture, or an empty one")
+
+
+# One cache line of two that asks for the line; and the same steps alone.
+OF_LINES = "at 1 remote 0 tau 0\nat 1 remote 0 send\nup 0\nat 1 home take 0\nat 1 home send 0 0\ndown 0\n"
+ALONE = "remote 0 tau 0\nremote 0 send\nup 0\nhome take 0\nhome send 0 0\ndown 0\n"
+# The same over a network that hands each frame on at once.
+OF_NETWORK = ("remote 0 tau 0\nremote 0 send\nnet 0 up pass 0\nup 0\nhome take 0\nhome send 0 0\n"
+              "net 0 down pass 0\ndown 0\n")
+WRONG_WORDS = [([], "FILE is missing"), (["x.rv"], "N, or --pairs, is missing"),
+               (["x.rv", "0"], "`0` is no N"), (["x.rv", "2", "-t"], "`-t` is no word here"),
+               (["x.rv", "2", "--trace", "a", "b"], "`b` is one word too many")]
+
+
+def try_pictures(tried):
+    """Charts of `lines` and `lossy` beside that of `run`; grey places; wrong words of tools/walk."""
+    path = example("migratory.rv")
+    alone = tried.tool("chart", [path], tried.rvc(["run", path, "1", "2", "lean"], ALONE))[1]
+    lines = tried.rvc(["lines", path, "1", "2", "lean", "2"], OF_LINES)
+    # Line 1 does what it does alone, and nothing of it is in the chart of line 0.
+    tried.see("chart of a cache line", tried.tool("chart", ["--line", "1", path], lines)[1] == alone,
+              "it isn't the chart of `run`")
+    tried.see("chart of the other", "req" not in tried.tool("chart", [path], lines)[1], "a request")
+    tried.see("chart: no such line", tried.tool("chart", ["--line", "2", path], lines)[0] == 1, "status")
+    trace = tried.rvc(["run", path, "1", "2", "lean"], ALONE)
+    tried.see("chart: --line and `run`", tried.tool("chart", ["--line", "0", path], trace)[0] == 1, "status")
+    text = tried.tool("chart", [path], tried.rvc(["lossy", path, "1", "2", "lean"], OF_NETWORK))[1]
+    moves = re.findall(r"~ (up|down) link: (.*)", text)
+    tried.see("chart of `lossy`: moves", moves == [("up", "put 1 got 1 flight[]"),
+                                                   ("down", "put 1 got 1 flight[]")], moves)
+    kept_rows = [re.sub(r"^ *\d+ ", "", row).rstrip() for row in text.split("\n") if "~" not in row]
+    same = [re.sub(r"^ *\d+ ", "", row).rstrip() for row in alone.split("\n")]
+    tried.see("chart of `lossy`: the rest", [row.split() for row in kept_rows]
+              == [row.split() for row in same], "differs from the chart of `run`")
+    # docs/REFINEMENT.md says of the lock in mode lean that no run comes to the rows of Wait.
+    table = tried.rvc(["json", example("lock.rv"), "lean"])
+    text = tried.tool("graph", ["--table", "--unreachable", example("lock.rv")], table)[1]
+    grey = re.findall(r'^    "([^"]*)" \[.*color = grey', text, re.M)
+    tried.see("graph: grey places", grey == ["remote Wait"], grey)
+    tried.see("graph: grey takes FILE", tried.tool("graph", ["--table", "--unreachable"], table)[0] == 1,
+              "status")
+    for words, says in WRONG_WORDS:
+        status, _, said = tried.tool("walk", words)
+        tried.see("walk %s" % words, status == 1 and says in said.split("\n")[0], said[:200])
