@@ -13,19 +13,21 @@ import subprocess
 from forms import READ_STANDARD_INPUT, path_in, shown, word_fault
 from protocol import END, NAME, NUMBER, RESERVED, Misfit, read_protocol
 from faults import first_fault, listed
+from refusals import refused_lines
+from traces import BLOCK, EVENT, STEP
 
 TOP = os.path.dirname(os.path.dirname(os.path.dirname(os.path.realpath(__file__))))
 SECONDS = 20
 FILE_LIMIT = 65536
 STORE_LIMIT = 262144
 LINE_LIMIT = 256
+SCHEDULE_LIMIT = 64 << 20
 TAIL = 1 << 20
 
 # Of each code: its name, what it means, and how to mend it.
 CODES = {
     1: ("no protocol", "Read from the front, this line has the first piece with which the file "
-        "can no longer become a protocol.",
-        "A missing `;` or `}` is reported at the next piece: look at what is before it, too."),
+        "can no longer become a protocol.", ""),
     10: ("too many", "There is more here than the limit.",
          "Join what belongs together, or let a local step go to a second state with the rest."),
     11: ("name too long", "A declared name has at most 32 bytes.", "Shorten the name."),
@@ -96,10 +98,12 @@ SCHEDULES = {
 class Again:
     """Has the program answer once more, where what it read can be read once more."""
 
-    def __init__(self, program, words, start):
+    def __init__(self, program, words, start, copy=None, answer=None):
         """`start` is where standard input stood before the run, or None where it can't be read
-        again."""
+        again; `copy` a Copy of it, and `answer` the status and the end of the text, where they
+        were kept."""
         self.program, self.words, self.start = program, words, start
+        self.copy, self.answer = copy, answer
 
     def run(self, words, schedule=None):
         """The status and the end of the text of a run with these words; (None, b"") where it
@@ -138,6 +142,8 @@ class Again:
 
     def schedule(self):
         """Standard input from where it stood, as a descriptor of its own, or None."""
+        if self.copy is not None:
+            return self.copy.kept()
         if self.start is None:
             return None
         try:
@@ -150,6 +156,8 @@ class Again:
 
     def replay(self):
         """The answer to the schedule: the status and the end of the text."""
+        if self.answer is not None:
+            return self.answer
         again = self.schedule()
         if again is None:
             return None, b""
@@ -205,7 +213,7 @@ def explanation(words, status, again):
     if status == 2:
         return refused_file(words[0], path, again)
     if status == 3 and words[0] == "audit":
-        return refused_trace(again)
+        return refused_trace(words, again)
     if status == 3 and reads:
         return refused_schedule(words[0], again)
     if status == 4:
@@ -213,6 +221,25 @@ def explanation(words, status, again):
     if status == 7 and reads:
         return broken_claim(words[0], path, again)
     return []
+
+
+def refusals(words, seen, again):
+    """Lines that say which lines of a schedule were refused, and why the first one was. `seen` is
+    what was Seen of the trace."""
+    schedule, descriptor = None, again.schedule() if seen.refused else None
+    if descriptor is not None:
+        with open(descriptor, "rb") as file:
+            schedule = file.read(SCHEDULE_LIMIT).decode("latin-1")
+    text = again.file(words[1])
+    if text is not None and words[0] == "boot":
+        text = text_of_store(text)
+    return refused_lines(words, seen, schedule, text)
+
+
+def text_of_store(image):
+    """The text of the protocol in a control store: its head has 40 bytes, and the length of the
+    text is at byte 16."""
+    return image[40 : 40 + int.from_bytes(image[16:24].encode("latin-1"), "big")]
 
 
 def page(name, section=None):
@@ -301,7 +328,7 @@ def sure(text, line, code):
         if code != 1 or misfit.piece.line != line:
             return None, [], None
         before = misfit.before.line if misfit.before else None
-        return misfit.piece.begin, misfit_sentences(misfit), before
+        return misfit.piece.begin, misfit_sentences(misfit, text), before
     fault = first_fault(file)
     if fault is None or (fault.line, fault.code) != (line, code):
         return None, [], None
@@ -327,9 +354,20 @@ def seen(row):
     return "".join(letter if letter.isprintable() else "?" for letter in row)
 
 
-def misfit_sentences(misfit):
+# What a file begins with that is saved in another encoding than plain ASCII.
+MARKS = {"\xef\xbb\xbf": "a byte order mark: save it as UTF-8 without one, or as ASCII",
+         "\xff\xfe": "the byte order mark of UTF-16: save it as ASCII or UTF-8",
+         "\xfe\xff": "the byte order mark of UTF-16: save it as ASCII or UTF-8"}
+
+
+def misfit_sentences(misfit, text):
     """Sentences on the first piece with which no protocol begins."""
     piece, before = misfit.piece, misfit.before
+    for mark, meaning in MARKS.items():
+        if piece.begin == 0 and text.startswith(mark):
+            return ["The file begins with %s." % meaning]
+    if "\0" in text[:200] and text[:200].count("\0") * 3 > len(text[:200]):
+        return ["Every second byte is 0: the file is UTF-16. Save it as ASCII or UTF-8."]
     wanted = [kind if kind in (NUMBER, NAME, END) else "`%s`" % kind for kind in misfit.wanted]
     where = "At the front" if before is None else "After `%s`" % before.text
     if before is not None and before.line != piece.line:
@@ -341,16 +379,56 @@ def misfit_sentences(misfit):
     if piece.kind == END:
         return ["The file ends here, and something is missing. " + can]
     named = "`%s`" % piece.text if " " < piece.text <= "~" else "A byte %d" % ord(piece.text)
-    return ["%s isn't allowed there%s. %s" % (named, why(misfit), can)]
+    told = ["%s isn't allowed there%s. %s" % (named, why(misfit), can)]
+    if before is not None and {";", "}"} & set(misfit.wanted) and (
+            before.line != piece.line or piece.kind in RESERVED or piece.kind == "}"):
+        told.append("A missing `;` or `}` is reported at the next piece: look at what is before it, "
+                    "too.")
+    return told
+
+
+# What this language has in place of words and symbols of others.
+ELSEWHERE = {
+    "bool": "there is no `bool`; `int 2` has the numbers 0 and 1",
+    "boolean": "there is no `boolean`; `int 2` has the numbers 0 and 1",
+    "enum": "there is no `enum`; number the cases, as an `int N`",
+    "const": "there are no constants; write the number",
+    "if": "there is no `if`; a guard has a condition after `when`",
+    "then": "there is no `then`; after the condition come `do` and `goto`",
+    "true": "there is no `true`; a guard without a condition is always open",
+    "or": "there is no `or`; write the guard twice",
+    "not": "there is no `not`; use `ne`, `notin`, or turn `lt` and `le` round",
+    ":=": "an assignment is `x = e`",
+    "<": "`a < b` is `a lt b`, `a <= b` is `a le b`",
+    ">": "`a > b` is `b lt a`, `a >= b` is `b le a`",
+    "*": "there are no products",
+    "[": "there are no arrays",
+    ":": "a message is declared as `message NAME up` or `down`, a variable as `var NAME TYPE = FIRST`",
+    "/": "only `//` begins a comment",
+    "#": "comments begin with `//`",
+}
 
 
 def why(misfit):
     """Why a piece fits nowhere or not here, as words to follow a sentence."""
-    piece = misfit.piece
+    piece, wanted = misfit.piece, misfit.wanted
     text = piece.text
+    if text in RESERVED and NAME in wanted:
+        return ": it is a reserved word, and no name"
+    if text in ELSEWHERE and not (text == "not" and "claim" in wanted):
+        return ": " + ELSEWHERE[text]
+    if text.lower() in wanted and text != text.lower():
+        return ": reserved words are written small, `%s`" % text.lower()
+    if text in "+-" and wanted == ["="]:
+        name = misfit.before.text
+        return ": there is no `%s%s%s`; write `%s = %s %s 1`" % (name, text, text, name, name, text)
+    if text in "+-" and "goto" in wanted:
+        return ": an expression has one `+` or `-`; use two assignments, `x = a + b, x = x + c`"
+    if text == "," and ")" in wanted:
+        return ": a message carries one value; send two messages, one after the other"
+    if text == "claim" and "home" in wanted:
+        return ": claims come at the end of the file, after the remote"
     if piece.kind is None:
-        if text == "/":
-            return ": only `//` begins a comment"
         if text.isdigit():
             return ": a number is 0, or has up to five digits and no leading zero"
         if text[0].isdigit():
@@ -358,12 +436,8 @@ def why(misfit):
         if ord(text) > 126 or ord(text) < 32:
             return ": outside of comments a file is plain ASCII"
         return ": no token begins with it"
-    if text in RESERVED and NAME in misfit.wanted:
-        return ": it is a reserved word, and no name"
     if text == "claim" and misfit.version == 1:
         return ": a file has claims only if its header says `version 2`"
-    if text == "or" and "and" in misfit.wanted:
-        return ": there is no `or`; write the guard twice"
     if text == "=" and "eq" in misfit.wanted:
         return ": equality is `eq`"
     if text == "when" and "goto" in misfit.wanted:
@@ -395,7 +469,7 @@ def refused_schedule(command, again):
     return told + [line_fault(command, line), forms] + more
 
 
-def refused_trace(again):
+def refused_trace(words, again):
     """Status 3 of `audit`."""
     more = ["More: " + page("FORMATS.md", "The text of `audit`")]
     status, answer = again.replay()
@@ -408,7 +482,28 @@ def refused_trace(again):
     line = schedule_line(again.schedule(), number)
     if line:
         told.append("%6d | %s" % (number, seen(line[:90].decode("latin-1")).rstrip()))
-    return told + more
+    return told + odd_trace(words, again.schedule(), line) + more
+
+
+def odd_trace(words, descriptor, line):
+    """A sentence on a trace of another command, or of another number of remotes."""
+    found = BLOCK.fullmatch((line or b"").decode("latin-1"))
+    if found and EVENT.fullmatch(found.group(2)) and found.group(3) in ("moved", "refused"):
+        return ["This is a trace of `rv`, and `audit` reads those of `run` and `boot`."]
+    if found and found.group(2).startswith("net ") or found and found.group(3) == "waiting":
+        return ["This is a trace of `lossy`, and `audit` reads those of `run` and `boot`."]
+    if found and found.group(2).startswith("line "):
+        return ["This is a trace of `lines`, and `audit` reads those of `run` and `boot`."]
+    if descriptor is None:
+        return []
+    with open(descriptor, "rb") as file:
+        text = file.read(SCHEDULE_LIMIT).decode("latin-1")
+    shown = text.rpartition("\nabstract\n")[2]
+    remotes = len(re.findall(r"^  remote \d+ ", shown, re.M)) if shown != text else 0
+    if remotes and remotes != int(words[2]):
+        return ["The trace is of a run with %d remote%s, and `audit` is told %s." % (
+            remotes, "s" * (remotes != 1), words[2])]
+    return []
 
 
 def schedule_line(descriptor, number):
@@ -436,11 +531,23 @@ def line_fault(command, line):
     return told + "A line is one of:"
 
 
+# Of events and steps: what a line of the other kind looks like, and what is said of it.
+OF_OTHERS = {
+    "event": (STEP, "This is a step of the controllers, as `run` and `boot` read it; `rv` reads events "
+              "of the protocol."),
+    "step": (EVENT, "This is an event of the protocol, as `rv` reads it; the controllers take steps: "
+             "`realize` turns events into steps, if this program has it."),
+}
+
+
 def words_fault(schedule, words):
     """Why these words are none of the forms, as a sentence with a space behind it; nothing where
     that can't be told."""
     kind, text, _ = schedule
     forms = [row[2:].split("  ")[0].split(" ") for row in text.split("\n") if row[:2] == "  "]
+    other = OF_OTHERS.get(kind)
+    if other and other[0].fullmatch(" ".join(words)):
+        return other[1] + " "
     likely = [form for form in forms if form[0] == words[0]]
     if not likely:
         return "`%s` begins no %s. " % (seen(words[0]), kind)
@@ -547,9 +654,7 @@ def broken_claim(command, path, again):
     more = ["More: " + page("LANGUAGE.md", "Claims")]
     text, where = again.file(path), "%s:%d"
     if text is not None and command == "boot":
-        # The head of a control store has 40 bytes, and the length of its text at byte 16.
-        length = int.from_bytes(text[16:24].encode("latin-1"), "big")
-        text, where = text[40 : 40 + length], "%s, line %d of its text"
+        text, where = text_of_store(text), "%s, line %d of its text"
     claims, file = [], None
     if text is not None:
         try:

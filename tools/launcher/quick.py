@@ -1,8 +1,10 @@
-"""Answers by the program `rvc` without its proofs, in about half a minute: quick.py CRATE WORDS..
+"""Answers by the program `rvc` without its proofs, in about half a minute:
+quick.py CRATE STRICT WORDS..
 
 `rt try` compiles the source in CRATE (crates/rvc) and runs it once. It reads no file and no pipe of
 its own, so the protocol file and standard input are read here, as the program would read them, and
-handed over as copies. The status and the bytes that it answers are passed on.
+handed over as copies. The status and the bytes that it answers are passed on. With `strict` for
+STRICT a refused line of a schedule gives the status 125 in place of 0.
 """
 import os
 import re
@@ -10,9 +12,10 @@ import subprocess
 import sys
 import tempfile
 
-from explain import TAIL, Answered, explanation, file_limit
+from explain import TAIL, Answered, explanation, file_limit, refusals
 from forms import READ_STANDARD_INPUT, is_text, path_in
-from run import tell
+from run import SCHEDULES, STRICT_STATUS, tell
+from watch import Seen
 
 INPUT_LIMIT = 64 << 20
 # Status 126, as where the program can't be built, says that there is no answer.
@@ -77,7 +80,7 @@ def tried(crate, words, data, given):
                    "or a mebibyte of output")
 
 
-def answer(crate, words):
+def answer(crate, strict, words):
     """The status of the program for these words, whose text is written."""
     with tempfile.TemporaryDirectory(prefix="rvc-quick-") as folder:
         # Words that aren't UTF-8 have no form, as no words have none.
@@ -93,15 +96,21 @@ def answer(crate, words):
         if not write(text):
             status = 5
         tell([UNPROVED])
-        if os.environ.get("RVC_QUIET") != "1" and 1 <= status <= 7:
-            explain(words, status, Answered(words, (status, text[-TAIL:]), copy, given))
-        return status
+        seen = Seen()
+        if path is not None and words[0] in SCHEDULES:
+            seen.look(text)
+        if os.environ.get("RVC_QUIET") != "1":
+            explain(words, status, Answered(words, (status, text[-TAIL:]), copy, given), seen)
+        return STRICT_STATUS if strict and seen.refused and status == 0 else status
 
 
-def explain(words, status, answered):
+def explain(words, status, answered, seen):
     """Explains the status as `./rvc` does. What goes wrong here isn't told."""
     try:
-        tell(explanation(words, status, answered))
+        if 1 <= status <= 7:
+            tell(explanation(words, status, answered))
+        if status in (0, 3, 7):
+            tell(refusals(words, seen, answered))
     except Exception:
         pass
 
@@ -118,7 +127,7 @@ def write(text):
 
 def main(words):
     try:
-        return answer(words[0], words[1:])
+        return answer(words[0], words[1] == "strict", words[2:])
     except NoAnswer as reason:
         tell(["rvc: no answer: %s. ./rvc without --quick proves and builds the program first."
               % reason])
