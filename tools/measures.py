@@ -151,17 +151,10 @@ def all_lines(file, remotes):
 
 
 def steps_of(file, words, count, seed):
-    """Steps for `run` with these words: those of `schedule`, if the program has it; else lines of
-    chance, so many that about `count` of them are enabled. Answers their text and where they are
-    from."""
-    status, text = answer(["schedule"] + words + [str(count), str(seed)])
-    if status == 0:
-        return text, "schedule"
-    if status != 1 or text != "error usage\n":
-        raise Fault("`schedule` ends with status %d: %s" % (status, text.split("\n")[0]))
+    """Pseudorandom lines for `run` with these words, so many that about `count` of them are enabled."""
     chance, lines = random.Random(seed), all_lines(file, range(int(words[1])))
     chosen = min(MOST_LINES, count * max(2, len(lines) // 2))
-    return "".join(chance.choice(lines) + "\n" for _ in range(chosen)), "chance"
+    return "".join(chance.choice(lines) + "\n" for _ in range(chosen))
 
 
 def cut_to(trace, count):

@@ -535,8 +535,7 @@ def line_fault(command, line):
 OF_OTHERS = {
     "event": (STEP, "This is a step of the controllers, as `run` and `boot` read it; `rv` reads events "
               "of the protocol."),
-    "step": (EVENT, "This is an event of the protocol, as `rv` reads it; the controllers take steps: "
-             "`realize` turns events into steps, if this program has it."),
+    "step": (EVENT, "This is an event of the protocol, as `rv` reads it; the controllers take steps."),
 }
 
 
