@@ -114,8 +114,8 @@ def try_server(tried):
     tried.see("server: rename", sorted(one["range"]["start"]["line"] + 1 for one in renamed)
               == [12, 15, 18], renamed)
     tried.see("server: a bad name", "code" in client.at("rename", *where, newName="goto"), "renamed")
-    try_completion(tried, client)
-    try_problems(tried, client)
+    complete_at_places(tried, client)
+    find_problems(tried, client)
     client.open(LOOSE)
     edits = client.at("formatting", 0, 0, options={})
     tried.see("server: formatting", [edit["newText"] for edit in edits] == [LAID_OUT], edits)
@@ -143,7 +143,7 @@ COMPLETED = [
 ]
 
 
-def try_completion(tried, client):
+def complete_at_places(tried, client):
     """What may come at places of a file that goes on."""
     for before, expected in COMPLETED:
         at = CLEAN.index(re.sub("T$", "", before)) + len(before)
@@ -158,7 +158,7 @@ def try_completion(tried, client):
     tried.see("server: completion in half a file", labels == ["ask"], labels)
 
 
-def try_problems(tried, client):
+def find_problems(tried, client):
     """Faults and advice: line, code, severity."""
     for old, new, line, code, says in (
             ("goto Taken;", "goto Takn;", 12, 13, "Is `Taken` meant?"),

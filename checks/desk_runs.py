@@ -78,25 +78,15 @@ def try_measure(tried):
                "requests of remotes taken": "1", "steps until answered, most": "3",
                "longest wait, remote 0": "2", "last event at step": "5"}
     tried.see("measure by hand", {name: rows[name][0] for name in by_hand} == by_hand, rows)
-    try_sweep(tried)
+    sweep(tried)
     for words, status in ((["x.rv", "2", "lean", "2"], 1), ([example("lock.rv"), "65", "lean", "2"], 1),
                           ([example("lock.rv"), "2", "lean"], 2), ([example("lock.rv"), "2", "2"], 2),
                           ([example("lock.rv"), "2", "lean", "2", "--steps", "no such"], 1)):
         found = tried.tool("measure", words)
         tried.see("measure %s" % words[1:], found[0] == status and found[2], found)
-    if tried.run([tried.program, "schedule", example("lock.rv"), "2", "2", "lean", "9", "1"])[0] == 0:
-        words = [example("lock.rv"), "3", "2", "lean"]
-        drive = dict(row.split(" ") for row in tried.rvc(
-            ["drive"] + words + ["3000", "5"]).splitlines())
-        rows = table_of(tried.tool("measure", [words[0], "3", "lean", "2", "--count", "3000", "--seed",
-                                               "5"])[1])
-        tried.see("measure over `schedule`", all(rows[name] == [drive[word]]
-                                                 for word, name in SAME.items()), rows)
-    else:
-        print("desk: not tried: measure over `schedule`, which this program doesn't have")
 
 
-def try_sweep(tried):
+def sweep(tried):
     """A sweep of modes and slots: its columns, that it is the same twice, its picture."""
     with tempfile.TemporaryDirectory() as folder:
         name = os.path.join(folder, "picture.svg")
@@ -172,18 +162,18 @@ def try_report(tried):
                 continue
             with open(out, encoding="utf-8") as file:
                 text = file.read()
-            try_page(tried, name, path, text)
+            look_at_page(tried, name, path, text)
             if steps:
                 with open(example(steps), encoding="latin-1") as file:
-                    try_player(tried, name, [path] + words, file.read(), text)
+                    look_at_player(tried, name, [path] + words, file.read(), text)
             if name == "migratory.rv":
-                try_chromium(tried, path, words, out)
+                open_in_chromium(tried, path, words, out)
     for words, status in ((["no such", "-o", "x"], 1), ([path], 2), ([path, "2", "-o", "x"], 2),
                           ([path, "2", "1", "lean", "-o", "x"], 1)):
         tried.see("report %s" % words[1:], tried.tool("report", words)[0] == status, "status")
 
 
-def try_page(tried, name, path, text):
+def look_at_page(tried, name, path, text):
     """A page is whole, names nothing outside, and has each state and each row."""
     page = Page(text)
     tried.see("report: elements, " + name, not page.open and not page.wrong, (page.open, page.wrong))
@@ -197,7 +187,7 @@ def try_page(tried, name, path, text):
     tried.see("report: rows, " + name, page.rows == rows + 2, (page.rows, rows))
 
 
-def try_player(tried, name, words, steps, text):
+def look_at_player(tried, name, words, steps, text):
     """The trace to play ends where `run` ends, and has a picture for each step."""
     shots = json.loads(Page(text).texts["shots"])
     trace = tried.rvc(["run"] + words, steps)
@@ -210,7 +200,7 @@ def try_player(tried, name, words, steps, text):
               "other steps")
 
 
-def try_chromium(tried, path, words, out):
+def open_in_chromium(tried, path, words, out):
     """In Chromium: the script shows step 4 and the rows with a nack; a picture of the page."""
     browser = next(filter(None, map(shutil.which, ("chromium", "chromium-browser", "google-chrome"))), None)
     if browser is None:

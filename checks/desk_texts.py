@@ -218,6 +218,9 @@ def try_format(tried):
     from protocol import PIECE
 
     tried.see("format: by hand", laid_out(LOOSE) == LAID_OUT, laid_out(LOOSE))
+    # Letters whose last byte is a blank of Unicode, in a comment.
+    marked = "// \u00c5 \u00e0".encode("utf-8").decode("latin-1")
+    tried.see("format: letters", laid_out(LOOSE.replace("// last", marked)).endswith(marked + "\n"), "cut")
     for path in protocol_files():
         with open(path, encoding="latin-1") as file:
             text = file.read()

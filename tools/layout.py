@@ -8,6 +8,8 @@ import re
 from protocol import PIECE, read_protocol
 
 CLOSE = {";", ",", "(", ")"}
+# Bytes stand as characters, so other blanks of Unicode may be parts of letters.
+BLANKS = " \t\r\n"
 
 
 class Line:
@@ -34,7 +36,7 @@ def lines_of(text):
             newlines += piece.count("\n")
             continue
         if piece.startswith("//"):
-            comment = piece.rstrip()
+            comment = piece.rstrip(BLANKS)
             if newlines == 0 and not line.tokens and not line.before and len(lines) > 1 and (
                     lines[-2].behind is None):
                 lines[-2].behind = comment
@@ -84,4 +86,4 @@ def spaced(text):
 
 def comments_in(text):
     """The comments of a text, in order, without the blanks at their ends."""
-    return [piece.rstrip() for piece in PIECE.findall(text) if re.match("//", piece)]
+    return [piece.rstrip(BLANKS) for piece in PIECE.findall(text) if re.match("//", piece)]

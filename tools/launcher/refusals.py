@@ -31,6 +31,9 @@ class History:
         who = None if head == "home" else int(rest.partition(" ")[0])
         nacks = row.rpartition(" down[")[2].count("-")
         before = self.shown.get((line, who), "").rpartition(" down[")[2].count("-")
+        if block and block[1] == "remote %s send" % who:
+            # It has sent its next request, or the same once more.
+            self.nacked.pop((line, who), None)
         if who is not None and nacks > before and block:
             self.nacked[(line, who)] = self.place(*block)
         self.shown[(line, who)] = row
@@ -76,7 +79,8 @@ def refused_lines(words, seen, schedule, text):
     rows = ["rvc: %s. %s %s:" % (
         count, "It is" if seen.refused == 1 else "The first is", place)]
     if row is not None:
-        rows.append("%6d | %s" % (line, shown(row.rstrip())))
+        row = row.rstrip(" \t\r").encode("latin-1").decode("utf-8", "replace")
+        rows.append("%6d | %s" % (line, shown(row)))
     return rows + why(words, seen, where, text)
 
 

@@ -33,7 +33,7 @@ class Seen:
 
     def __init__(self):
         self.blocks = self.refused = 0
-        self.first, self.words, self.head = None, None, b""
+        self.first, self.words, self.head = None, None, bytearray()
         self.tail, self.rest = b"", b""
 
     def look(self, piece):
@@ -46,9 +46,12 @@ class Seen:
         if found and self.first is None:
             self.first, self.words = int(found[0][0]), found[0][1].decode("latin-1")
             at = REFUSED.search(lines).start()
-            self.head = None if self.head is None else self.head + lines[:at]
+            if self.head is not None:
+                self.head += lines[:at]
         elif self.first is None and self.head is not None:
-            self.head = self.head + lines if len(self.head) < KEPT else None
+            self.head += lines
+            if len(self.head) > KEPT:
+                self.head = None
         self.refused += len(found)
 
 
