@@ -270,13 +270,13 @@ def impossible(file, process, guard):
         text = written(file, condition.first, condition.last)
         if never_holds(process, condition):
             found.append(Advice(condition.line, condition, "The condition `%s` never holds, so the "
-                                "guard is never taken. Mend it, or remove the guard." % text))
+                                "guard is never taken. Fix it, or remove the guard." % text))
             continue
         narrow(process, condition, limits)
     if not found and any(low > high for low, high in limits.values()):
         names = [name for name, (low, high) in limits.items() if low > high]
         found.append(Advice(guard.line, guard.conditions[0], "The conditions on %s never hold "
-                            "together, so the guard is never taken. Mend them, or remove the guard."
+                            "together, so the guard is never taken. Fix them, or remove the guard."
                             % listed(["`%s`" % name for name in names])))
     return found
 

@@ -95,7 +95,7 @@ class Reader:
         """A fault: something else comes next."""
         token = self.tokens[self.at][0]
         shown = ascii(token)[1:-1] if token else "the end of the file"
-        return self.fault("%s where %s should stand" % (shown, wanted))
+        return self.fault("%s where %s is expected" % (shown, wanted))
 
     def sees(self, *words):
         """Whether the next token is one of these."""

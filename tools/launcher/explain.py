@@ -501,7 +501,7 @@ def odd_trace(words, descriptor, line):
     shown = text.rpartition("\nabstract\n")[2]
     remotes = len(re.findall(r"^  remote \d+ ", shown, re.M)) if shown != text else 0
     if remotes and remotes != int(words[2]):
-        return ["The trace is of a run with %d remote%s, and `audit` is told %s." % (
+        return ["The trace is of a run with %d remote%s, and `audit` is called with %s." % (
             remotes, "s" * (remotes != 1), words[2])]
     return []
 

@@ -283,7 +283,7 @@ class Reasons:
         targets = {other for guard in outputs for other in range(self.remotes)
                    if is_target(guard, variables, other)}
         if not targets:
-            found.append("The home gives a request up only where it could send one itself, and no "
+            found.append("The home gives a request up only if it could send one itself, and no "
                          "open output of state %s has a target." % self.standings[None].state)
         elif len(held) < self.slots - 1 and remote not in targets:
             found.append("The request of remote %d isn't in the way: %d of %d slots are free, and no "
