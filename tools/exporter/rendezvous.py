@@ -36,7 +36,7 @@ def listed(process):
 
 def claim_of(text, stands):
     """The condition that a claim states; `stands` tells that a remote is in one of these states."""
-    words = text.split(" ")[1:]
+    words = text.split(" ")
     if words[0] == "atmost":
         states = sorted(set(words[3:]), key=words.index)
         return m.at_most(int(words[1]), lambda remote: stands(remote, states))
