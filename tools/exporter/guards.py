@@ -60,6 +60,10 @@ class Body:
         """Where a variable is kept."""
         return "%s.%s" % (self.at, self.names.field(variable))
 
+    def kept(self, variable):
+        """The remotes that a variable names."""
+        return m.kept(self.place(variable), self.process.types[variable][0])
+
     def state(self):
         """Where the state is kept."""
         return self.at + ".state"
@@ -83,7 +87,7 @@ class Body:
     def remotes(self, tokens):
         """The node or set that the tokens spell."""
         def one(term):
-            return m.NONE if term in ("none", "empty") else m.kept(self.place(term))
+            return m.NONE if term in ("none", "empty") else self.kept(term)
         if len(tokens) == 1:
             return one(tokens[0])
         left, right = one(tokens[0]), one(tokens[2])
@@ -112,8 +116,8 @@ class Body:
         """The remote is a target of this guard of the home."""
         words = guard.partner.split(" ")
         if words[0] != "any":
-            return m.contains(m.kept(self.place(words[0])), remote)
-        return m.contains(m.kept(self.place(words[3])), remote) if len(words) > 2 else m.TRUE
+            return m.contains(self.kept(words[0]), remote)
+        return m.contains(self.kept(words[3]), remote) if len(words) > 2 else m.TRUE
 
     def stands(self, state):
         """The process is in this state."""
@@ -140,13 +144,13 @@ class Body:
                 got = Amount(value, kind[1] - 1)
                 done.append(m.put(self.place(variable), got.cut(self.process.types[variable][1])))
             else:
-                done.append(m.put_set(self.place(variable), value))
+                done.append(m.put_set(self.place(variable), value, kind[0]))
         for variable, tokens in assignments(guard):
             kind = self.process.types[variable]
             if kind[0] == "int":
                 done.append(m.put(self.place(variable), self.amount(tokens).cut(kind[1])))
             else:
-                done.append(m.put_set(self.place(variable), self.remotes(tokens)))
+                done.append(m.put_set(self.place(variable), self.remotes(tokens), kind[0]))
         return done
 
     def enter(self, guard):
@@ -166,7 +170,7 @@ class Body:
         """The statement that gives the variable its first value."""
         if self.process.types[variable][0] == "int":
             return m.put(self.place(variable), m.word(self.process.variables[variable]))
-        return m.put_set(self.place(variable), m.NONE)
+        return m.put_set(self.place(variable), m.NONE, self.process.types[variable][0])
 
     def move(self, state, guard, partner=None, value=None):
         """All that the process does where it completes the guard in this state."""

@@ -80,9 +80,9 @@ def ask(name, *arguments):
     return ("ask", name) + arguments
 
 
-def kept(place):
-    """The set of remotes that is kept in this place."""
-    return ("kept", place)
+def kept(place, kind="node"):
+    """The set of remotes that is kept in this place, as a node or as a set."""
+    return ("kept", place, kind)
 
 
 def just(remote):
@@ -112,9 +112,9 @@ def put(place, value):
     return ("put", place, value)
 
 
-def put_set(place, remotes):
-    """The set is kept in this place from now on."""
-    return ("put set", place, remotes)
+def put_set(place, remotes, kind="node"):
+    """The set is kept in this place from now on, as a node or as a set."""
+    return ("put set", place, remotes, kind)
 
 
 def when(*cases, otherwise=()):

@@ -205,14 +205,14 @@ end;""" % (name, self.machine.remotes, self.machine.remotes, self.expression(tes
     def do_copy(self, indent, place, other):
         return ["%s%s := %s;" % (indent, place, other)]
 
-    def do_put_set(self, indent, place, remotes):
+    def do_put_set(self, indent, place, remotes, kind):
         if remotes[0] == "none":
             return ["%s%s(%s);" % (indent, self.helper("MakeEmpty"), place)]
         if remotes[0] == "just":
             return ["%s%s(%s, %s);" % (indent, self.helper("MakeJust"), place, remotes[1])]
         if remotes[0] == "kept":
             return ["%s%s := %s;" % (indent, place, remotes[1])] if remotes[1] != place else []
-        lines = self.do_put_set(indent, place, remotes[1])
+        lines = self.do_put_set(indent, place, remotes[1], kind)
         name = self.helper("Include" if remotes[0] == "with" else "Exclude")
         return lines + ["%s%s(%s, %s);" % (indent, name, place, remotes[2][1])]
 
