@@ -31,6 +31,9 @@ class Printer:
         return " || ".join(self.expression(part, COMPARE) for part in parts), OR
 
     def of_not(self, part):
+        if part[0] == "equal":
+            text, bound = self.of_equal(*part[1:])
+            return text.replace(" == ", " != "), bound
         return "!" + self.expression(part, ATOM), COMPARE
 
     def of_compare(self, relation, left, right):
@@ -197,9 +200,9 @@ class Printer:
         lines = []
         for number, (name, condition) in enumerate(self.machine.invariants):
             lines += ["/* %s */" % name] + self.macro("holds_%d" % number, condition)
-        lines += ["", "active proctype Claims() {", "end:", "  if"]
+        lines += ["", "active proctype Claims() {", "end_:", "  if"]
         for number in range(len(self.machine.invariants)):
-            lines.append("  :: d_step { !holds_%d -> assert(holds_%d) }" % (number, number))
+            lines.append("  :: atomic { !holds_%d -> assert(false) }" % number)
         return lines + ["  fi", "}"]
 
 
