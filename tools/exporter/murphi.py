@@ -308,6 +308,17 @@ end;""" % (name, self.machine.remotes, self.machine.remotes, self.expression(tes
         lines += [indent + "==>", indent + "begin"]
         return lines + self.statements(rule.statements, indent + "  ") + [indent + "end;", ""]
 
+    def returned(self, value):
+        """The statements by which a function answers this."""
+        lines = []
+        while value[0] == "choice":
+            lines += wrapped("  %s %s then" % ("elsif" if lines else "if",
+                                               self.expression(value[1])), "    ")
+            lines.append("    return %s;" % self.expression(value[2]))
+            value = value[3]
+        last = wrapped("  return %s;" % self.expression(value), "    ")
+        return lines + ["  else"] + ["  " + line for line in last] + ["  end;"] if lines else last
+
     def functions(self):
         """The functions and procedures of the machine."""
         lines = []
@@ -315,8 +326,7 @@ end;""" % (name, self.machine.remotes, self.machine.remotes, self.expression(tes
             head = "; ".join("%s: %s" % (name, self.type(kind)) for name, kind in function.parameters)
             lines += ["-- " + function.about, "function %s(%s): %s;" % (
                 function.name, head, self.type(function.type)), "begin"]
-            lines += wrapped("  return %s;" % self.expression(function.value), "    ")
-            lines += ["end;", ""]
+            lines += self.returned(function.value) + ["end;", ""]
         for procedure in self.machine.procedures:
             head = "; ".join("%s: %s" % (name, self.type(kind)) for name, kind in procedure.parameters)
             lines += ["-- " + procedure.about, "procedure %s(%s);" % (procedure.name, head), "begin"]

@@ -16,7 +16,7 @@ long register restrict return short signed sizeof static struct switch typedef u
 volatile while main now trpt uchar ushort uint""".split()
 # The fields that the machines have beside the variables of a protocol.
 OURS = """state awaits waits mode slot up down ups downs owed held place kind message value number remotes
-home remote""".split()
+home remote r which what""".split()
 TAKEN = set(MURPHI + PROMELA + C + OURS)
 
 
