@@ -40,10 +40,10 @@ class Controllers(Rendezvous):
             m.Field("held", ("number", self.slots + 1), about="how many requests it holds")]
         remote = fields_of(self.protocol.remote, self.names) + [
             m.Field("mode", ("enum", "Mode"), "Idle"),
-            m.Field("slot", ("record", "Request"), about="a request of the home, or NoMessage")]
+            m.Field("slot", ("record", "Slot"), about="a request of the home, or NoMessage")]
         return [
             m.Record("Packet", [m.Field("kind", KIND, "Nothing"), message] + self.values()),
-            m.Record("Request", [message] + self.values()),
+            m.Record("Slot", [message] + self.values()),
             m.Record("Held", [m.Field("place", ("number", self.slots + 1)), message] + self.values(),
                      "a request that the home holds: its place in the order of arrival, 0 for none"),
             m.Record("Link", [m.Field("up", ("record", "Packet"), count=UP),
@@ -57,7 +57,7 @@ class Controllers(Rendezvous):
         """The types of names."""
         enums = states_of(self.protocol, self.names)
         enums["Message"] = [NO_MESSAGE] + [self.names.message(one) for one in self.protocol.messages]
-        enums["Kind"] = ["Nothing", "Request_", "Reply_", "Ack_", "Nack_"]
+        enums["Kind"] = ["Nothing", "Request", "Reply", "Ack", "Nack"]
         enums["Mode"] = ["Idle", "Waiting", "Due"]
         enums["HomeWaits"] = [NOT_WAITING] + [self.waits(*one[:2]) for one in self.home_outputs]
         return enums
@@ -215,10 +215,10 @@ class Controllers(Rendezvous):
             return m.same("home.waits", self.waits(state, number))
 
         waits_on = [lambda i, test=test: m.both([m.contains(m.kept("home.awaits"), i), test(i)])
-                    for test in (lambda i: self.lies("up", i, "Reply_"),
-                                 lambda i: m.either([self.lies("up", i, "Ack_"),
+                    for test in (lambda i: self.lies("up", i, "Reply"),
+                                 lambda i: m.either([self.lies("up", i, "Ack"),
                                                      m.same("remote[%s].mode" % i, "Due")]))]
-        granted = m.either([self.lies("down", "r", "Ack_"),
+        granted = m.either([self.lies("down", "r", "Ack"),
                             m.negated(m.same("owed[r]", NO_MESSAGE))])
         at = "remote[r].state"
         return [
@@ -230,7 +230,7 @@ class Controllers(Rendezvous):
                 "The state behind that guard and the one that takes the reply."),
             m.Function("Stands", [("r", REMOTE)], remote, m.choice(
                 m.negated(m.same("remote[r].mode", "Waiting")), m.word(at),
-                m.choice(self.lies("down", "r", "Reply_"), m.ask("BehindReply", "r"),
+                m.choice(self.lies("down", "r", "Reply"), m.ask("BehindReply", "r"),
                          m.choice(granted, m.ask("BehindRequest", "r"), m.word(at)))),
                 "The state in which remote r stands in the protocol."),
             m.Function("HomeBehindRequest", [], home, chain(
@@ -276,7 +276,7 @@ class Controllers(Rendezvous):
             condition = m.both([self.idle(), self.completing((state, number, guard), remote, which)] + before)
             reply = self.replies.get(guard.message)
             answer = ([m.put("owed[%s]" % remote, m.word(self.names.message(reply)))] if reply
-                      else self.send("Down", remote, "Ack_"))
+                      else self.send("Down", remote, "Ack"))
             moves = self.home.move(state, guard, remote, self.carried(guard, "held[%s]" % remote))
             rules.append(m.Rule("home take %s/%d" % (state, number), condition,
                                 moves + [m.call("LetGo", remote)] + answer,
@@ -294,14 +294,14 @@ class Controllers(Rendezvous):
             if guard.message in replies:
                 rules.append(m.Rule("home pay %s/%d" % (state, number), m.both(
                     [condition, m.same("owed[%s]" % remote, self.message(guard))]),
-                    self.send("Down", remote, "Reply_", self.home, guard)
+                    self.send("Down", remote, "Reply", self.home, guard)
                     + [m.put("owed[%s]" % remote, m.word(NO_MESSAGE))]
                     + self.home.move(state, guard, remote), about))
             free = [m.same("owed[%s]" % remote, NO_MESSAGE), m.negated(m.ask("SomeHeldCompletes")),
                     m.compare(m.word("home.held"), "<=", m.word(self.slots - 2)),
                     m.same("held[%s].place" % remote, 0)]
             rules.append(m.Rule("home send %s/%d" % (state, number), m.both([condition] + free),
-                                self.send("Down", remote, "Request_", self.home, guard)
+                                self.send("Down", remote, "Request", self.home, guard)
                                 + [m.put("home.waits", m.word(self.waits(state, number))),
                                    m.put_set("home.awaits", m.just(remote))], about))
         return rules
@@ -314,7 +314,7 @@ class Controllers(Rendezvous):
             m.either([m.compare(m.word("home.held"), ">=", m.word(self.slots - 1)),
                       m.ask("IsTarget", remote)])])
         return [m.Rule("home drop", condition,
-                       [m.call("LetGo", remote)] + self.send("Down", remote, "Nack_"))]
+                       [m.call("LetGo", remote)] + self.send("Down", remote, "Nack"))]
 
     # ------------------------------------------------------------ steps of a remote
 
@@ -342,12 +342,12 @@ class Controllers(Rendezvous):
                 continue
             rules.append(m.Rule("remote send %s" % state, m.both(
                 [self.mode_is(remote, "Idle"), own.stands(state)]),
-                self.fields(slot) + self.send("Up", remote, "Request_", own, guard)
+                self.fields(slot) + self.send("Up", remote, "Request", own, guard)
                 + [self.mode(remote, "Waiting")], about))
             if guard.message in replies:
                 rules.append(m.Rule("remote reply %s" % state, m.both(
                     [self.mode_is(remote, "Due"), own.stands(state)]),
-                    self.send("Up", remote, "Reply_", own, guard) + own.move(state, guard)
+                    self.send("Up", remote, "Reply", own, guard) + own.move(state, guard)
                     + [self.mode(remote, "Idle")], about))
         return rules
 
@@ -365,7 +365,7 @@ class Controllers(Rendezvous):
                 before = [m.negated(own.open(one)) for other, one in inputs
                           if other < number and one.message == guard.message]
                 answer = ([self.mode(remote, "Due")] if guard.message in self.replies
-                          else self.send("Up", remote, "Ack_"))
+                          else self.send("Up", remote, "Ack"))
                 rules.append(m.Rule("remote answer %s/%d" % (state, number), m.both(
                     [here, m.same(slot + ".message", self.message(guard)), own.open(guard)] + before),
                     own.move(state, guard, None, self.carried(guard, slot)) + self.fields(slot) + answer,
@@ -374,7 +374,7 @@ class Controllers(Rendezvous):
                     for _, guard in inputs]
             rules.append(m.Rule("remote answer %s none" % state, m.both(
                 [here, m.negated(m.same(slot + ".message", NO_MESSAGE))] + none),
-                self.fields(slot) + self.send("Up", remote, "Nack_")))
+                self.fields(slot) + self.send("Up", remote, "Nack")))
         return rules
 
     # ------------------------------------------------------------ a packet arrives
@@ -391,27 +391,27 @@ class Controllers(Rendezvous):
 
         def comes(kind):
             return m.same(first + ".kind", kind)
-        rules, answers = [], [m.both([awaited, comes("Nack_")])]
+        rules, answers = [], [m.both([awaited, comes("Nack")])]
         for state, number, guard in self.home_outputs:
             waits = m.same("home.waits", self.waits(state, number))
             moves = self.home.move(state, guard, remote)
             reply = self.replies.get(guard.message)
             if reply:
                 taker = self.only_input(self.protocol.home, guard)
-                condition = m.both([awaited, waits, comes("Reply_"),
+                condition = m.both([awaited, waits, comes("Reply"),
                                     m.same(first + ".message", self.names.message(reply))])
                 moves = moves + self.home.move(guard.goto, taker, remote, self.carried(taker, first))
             else:
-                condition = m.both([awaited, waits, comes("Ack_")])
+                condition = m.both([awaited, waits, comes("Ack")])
             answers.append(condition)
             rules.append(m.Rule("up %s %s/%d" % ("reply" if reply else "ack", state, number), condition,
                                 moves + self.back() + [take], (line("home", state, number, guard),)))
-        asked = comes("Request_")
+        asked = comes("Request")
         free = m.both([m.negated(awaited), asked])
         room = [m.each_remote(lambda i: [m.when((
             m.compare(m.word("held[%s].place" % i), "=", m.word("home.held")),
             [m.put("held[%s].place" % i, m.word(0))] + self.fields("held[%s]" % i)
-            + self.send("Down", i, "Nack_")))]),
+            + self.send("Down", i, "Nack")))]),
             m.put("home.held", ("sum", "-", m.word("home.held"), m.word(1)))]
         kept, displaces = m.ask("IsKept", remote), m.ask("Displaces", remote)
         return rules + [
@@ -422,7 +422,7 @@ class Controllers(Rendezvous):
             m.Rule("up request, displaces", m.both([free, displaces]),
                    room + [m.call("Hold", remote), take]),
             m.Rule("up request, nacked", m.both([free, m.negated(kept), m.negated(displaces)]),
-                   [take] + self.send("Down", remote, "Nack_")),
+                   [take] + self.send("Down", remote, "Nack")),
             m.Rule("up, not expected", m.both([
                 m.negated(comes("Nothing")), m.negated(asked)] + [m.negated(one) for one in answers]),
                 [m.must(m.FALSE, "what arrives at the home is expected")])]
@@ -436,18 +436,18 @@ class Controllers(Rendezvous):
 
         def comes(kind):
             return m.same(first + ".kind", kind)
-        rules, answers = [], [m.both([waits, comes("Nack_")]), m.both([waits, comes("Request_")]),
-                              m.both([idle, comes("Request_")])]
+        rules, answers = [], [m.both([waits, comes("Nack")]), m.both([waits, comes("Request")]),
+                              m.both([idle, comes("Request")])]
         for state, number, guard in self.remote_outputs:
             moves = own.move(state, guard)
             reply = self.replies.get(guard.message)
             if reply:
                 taker = self.only_input(self.protocol.remote, guard)
-                condition = m.both([waits, own.stands(state), comes("Reply_"),
+                condition = m.both([waits, own.stands(state), comes("Reply"),
                                     m.same(first + ".message", self.names.message(reply))])
                 moves = moves + own.move(guard.goto, taker, None, self.carried(taker, first))
             else:
-                condition = m.both([waits, own.stands(state), comes("Ack_")])
+                condition = m.both([waits, own.stands(state), comes("Ack")])
             answers.append(condition)
             rules.append(m.Rule("down %s %s/%d" % ("reply" if reply else "ack", state, number), condition,
                                 moves + [self.mode(remote, "Idle"), take],

@@ -316,7 +316,12 @@ end;""" % (name, self.machine.remotes, self.machine.remotes, self.expression(tes
                                                self.expression(value[1])), "    ")
             lines.append("    return %s;" % self.expression(value[2]))
             value = value[3]
-        last = wrapped("  return %s;" % self.expression(value), "    ")
+        if value[0] == "or" and len(value) > 3:
+            parts = [self.expression(part, OR) for part in value[1:]]
+            last = ["  return " + parts[0]] + ["    | " + part for part in parts[1:]]
+            last[-1] += ";"
+        else:
+            last = wrapped("  return %s;" % self.expression(value), "    ")
         return lines + ["  else"] + ["  " + line for line in last] + ["  end;"] if lines else last
 
     def functions(self):
@@ -366,15 +371,14 @@ end;""" % (name, self.machine.remotes, self.machine.remotes, self.expression(tes
 
 
 def wrapped(text, indent):
-    """The text in lines that aren't too long."""
+    """The text in lines that aren't too long; a line ends behind a comma, an `and` or an `or`."""
     lines = []
     for line in text.split("\n"):
-        if len(line) <= WIDTH or re.search(r'"', line):
-            lines.append(line)
-        else:
-            lines += textwrap.wrap(line, WIDTH, subsequent_indent=indent + "  ",
-                                   break_long_words=False, break_on_hyphens=False,
-                                   drop_whitespace=True, replace_whitespace=False)
+        held = re.sub(r"(?<![&|,{]) (?=\S)", "\0", line)
+        head = len(held) - len(held.lstrip(" \0"))
+        parts = textwrap.wrap(held[head:], WIDTH - head, subsequent_indent=indent[head:] + "  ",
+                              break_long_words=False, break_on_hyphens=False) or [""]
+        lines += [(line[:head] + part).replace("\0", " ") for part in parts]
     return lines
 
 
