@@ -366,7 +366,7 @@ end;""" % (name, self.machine.remotes, self.machine.remotes, self.expression(tes
             if name in self.used:
                 lines += [HELPERS[name], ""]
         for count in self.counts:
-            lines += [count, ""]
+            functions += [count, ""]
         return "\n".join(lines + functions + start + rules + invariants)
 
 
