@@ -88,6 +88,8 @@ class Printer:
         return " | ".join(self.expression(part, OR) for part in parts), OR
 
     def of_not(self, part):
+        if part[0] == "compare" and part[1] == "=":
+            return self.of_compare("!=", *part[2:])
         return "!" + self.expression(part, ATOM), NOT
 
     def of_compare(self, relation, left, right):

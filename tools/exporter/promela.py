@@ -34,6 +34,8 @@ class Printer:
         if part[0] == "equal":
             text, bound = self.of_equal(*part[1:])
             return text.replace(" == ", " != "), bound
+        if part[0] == "compare" and part[1] == "=":
+            return self.of_compare("!=", *part[2:])
         return "!" + self.expression(part, ATOM), COMPARE
 
     def of_compare(self, relation, left, right):
