@@ -137,13 +137,13 @@ class Controllers(Rendezvous):
             m.put("home.held", ("sum", "+", m.word("home.held"), m.word(1))),
             m.put("held[r].place", m.word("home.held"))] + self.fields("held[r]", "link[r].up[0]"),
             "The request that arrives is held as the last one."))
-        made.append(m.Procedure("LetGo", [("r", REMOTE)], [
+        made.append(m.Procedure("Release", [("r", REMOTE)], [
             m.each_remote(lambda i: [m.when((
                 m.compare(m.word("held[r].place"), "<", m.word("held[%s].place" % i)),
                 [m.put("held[%s].place" % i, ("sum", "-", m.word("held[%s].place" % i), m.word(1)))]))]),
             m.put("held[r].place", m.word(0)),
             m.put("home.held", ("sum", "-", m.word("home.held"), m.word(1)))] + self.fields("held[r]"),
-            "The held request leaves its slot, and those behind it move up."))
+            "The held request leaves its slot, and later ones move up."))
         return made
 
     def completing(self, guard_at, remote, which):
@@ -184,27 +184,27 @@ class Controllers(Rendezvous):
             m.Function("Displaces", [("r", REMOTE)], boolean, m.both([
                 self.idle(), m.compare(held, "=", m.word(self.slots)), completes,
                 m.negated(m.ask("SomeHeldCompletes"))]),
-                "The request that arrives makes the last held one go: no slot is free, and it alone is of use."),
+                "The request that arrives displaces the last held one: no slot is free, and no held request completes a guard."),
         ] + self.abstraction()
 
     def abstraction(self):
-        """Where the processes stand in the protocol. One that waits may have been granted its request
-        and not know it yet."""
+        """The states of the processes in the protocol. A process that waits may have been granted its
+        request and not know it yet."""
         home, remote = ("enum", "HomeState"), ("enum", "RemoteState")
         processes = self.protocol.home, self.protocol.remote
 
         def chain(outputs, process, test, leads, otherwise):
             result = m.word(otherwise)
             for state, number, guard in reversed(outputs):
-                after = leads(process, guard)
-                if after is not None:
-                    result = m.choice(test(state, number), m.word(self.names.state(process, after)), result)
+                goal = leads(process, guard)
+                if goal is not None:
+                    result = m.choice(test(state, number), m.word(self.names.state(process, goal)), result)
             return result
 
-        def behind(process, guard):
+        def after(process, guard):
             return guard.goto
 
-        def behind_reply(process, guard):
+        def after_reply(process, guard):
             rest = process.states[guard.goto]
             return rest[0].goto if len(rest) == 1 and rest[0].kind == "from" else None
 
@@ -222,29 +222,29 @@ class Controllers(Rendezvous):
                             m.negated(m.same("owed[r]", NO_MESSAGE))])
         at = "remote[r].state"
         return [
-            m.Function("BehindRequest", [("r", REMOTE)], remote, chain(
-                self.remote_outputs, processes[1], by_state, behind, at),
-                "The state behind the guard by which remote r waits."),
-            m.Function("BehindReply", [("r", REMOTE)], remote, chain(
-                self.remote_outputs, processes[1], by_state, behind_reply, at),
-                "The state behind that guard and the one that takes the reply."),
-            m.Function("Stands", [("r", REMOTE)], remote, m.choice(
+            m.Function("AfterRequest", [("r", REMOTE)], remote, chain(
+                self.remote_outputs, processes[1], by_state, after, at),
+                "The state after the guard by which remote r waits."),
+            m.Function("AfterReply", [("r", REMOTE)], remote, chain(
+                self.remote_outputs, processes[1], by_state, after_reply, at),
+                "The state after that guard and the one that takes the reply."),
+            m.Function("AbstractState", [("r", REMOTE)], remote, m.choice(
                 m.negated(m.same("remote[r].mode", "Waiting")), m.word(at),
-                m.choice(self.lies("down", "r", "Reply"), m.ask("BehindReply", "r"),
-                         m.choice(granted, m.ask("BehindRequest", "r"), m.word(at)))),
-                "The state in which remote r stands in the protocol."),
-            m.Function("HomeBehindRequest", [], home, chain(
-                self.home_outputs, processes[0], by_guard, behind, "home.state"),
-                "The state behind the guard by which the home waits."),
-            m.Function("HomeBehindReply", [], home, chain(
-                self.home_outputs, processes[0], by_guard, behind_reply, "home.state"),
-                "The state behind that guard and the one that takes the reply."),
-            m.Function("HomeStands", [], home, m.choice(
+                m.choice(self.lies("down", "r", "Reply"), m.ask("AfterReply", "r"),
+                         m.choice(granted, m.ask("AfterRequest", "r"), m.word(at)))),
+                "The abstraction: the state of remote r in the protocol, where a request that was granted is complete."),
+            m.Function("HomeAfterRequest", [], home, chain(
+                self.home_outputs, processes[0], by_guard, after, "home.state"),
+                "The state after the guard by which the home waits."),
+            m.Function("HomeAfterReply", [], home, chain(
+                self.home_outputs, processes[0], by_guard, after_reply, "home.state"),
+                "The state after that guard and the one that takes the reply."),
+            m.Function("AbstractHomeState", [], home, m.choice(
                 self.idle(), m.word("home.state"),
-                m.choice(m.some_remote(waits_on[0]), m.ask("HomeBehindReply"),
-                         m.choice(m.some_remote(waits_on[1]), m.ask("HomeBehindRequest"),
+                m.choice(m.some_remote(waits_on[0]), m.ask("HomeAfterReply"),
+                         m.choice(m.some_remote(waits_on[1]), m.ask("HomeAfterRequest"),
                                   m.word("home.state")))),
-                "The state in which the home stands in the protocol."),
+                "The abstraction: the state of the home in the protocol."),
         ]
 
     # ------------------------------------------------------------ steps of the home
@@ -279,7 +279,7 @@ class Controllers(Rendezvous):
                       else self.send("Down", remote, "Ack"))
             moves = self.home.move(state, guard, remote, self.carried(guard, "held[%s]" % remote))
             rules.append(m.Rule("home take %s/%d" % (state, number), condition,
-                                moves + [m.call("LetGo", remote)] + answer,
+                                moves + [m.call("Release", remote)] + answer,
                                 (line("home", state, number, guard),)))
         return rules
 
@@ -314,7 +314,7 @@ class Controllers(Rendezvous):
             m.either([m.compare(m.word("home.held"), ">=", m.word(self.slots - 1)),
                       m.ask("IsTarget", remote)])])
         return [m.Rule("home drop", condition,
-                       [m.call("LetGo", remote)] + self.send("Down", remote, "Nack"))]
+                       [m.call("Release", remote)] + self.send("Down", remote, "Nack"))]
 
     # ------------------------------------------------------------ steps of a remote
 
@@ -472,7 +472,7 @@ class Controllers(Rendezvous):
 
     def stands(self, remote, states):
         """The remote stands in one of these states in the protocol."""
-        return m.either([m.compare(m.ask("Stands", remote), "=", m.word(
+        return m.either([m.compare(m.ask("AbstractState", remote), "=", m.word(
             self.names.state(self.protocol.remote, state))) for state in states])
 
     def bounds(self):
@@ -481,7 +481,7 @@ class Controllers(Rendezvous):
         held = m.word("home.held")
         return [("a slot is left while the home waits", m.either(
             [self.idle(), m.compare(held, "<", m.word(self.slots))])),
-            ("the last slot but that one is for a request of use", m.negated(m.both(
+            ("with one more slot free, some held request completes a guard", m.negated(m.both(
                 [waits, m.compare(held, "=", m.word(self.slots - 1)),
                  m.negated(m.ask("SomeHeldCompletes"))])))]
 

@@ -357,7 +357,7 @@ end;""" % (name, self.machine.remotes, self.machine.remotes, self.expression(tes
         if of_remote:
             rules += ["ruleset r: Remote do", ""] + of_remote + ["end;", ""]
         if not rules:
-            rules = ["-- nothing ever takes place", 'rule "nothing" false ==> begin end;', ""]
+            rules = ["-- no event ever takes place", 'rule "nothing" false ==> begin end;', ""]
         invariants = []
         for name, condition in machine.invariants:
             invariants += ['invariant "%s"' % name]

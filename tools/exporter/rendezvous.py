@@ -95,7 +95,7 @@ class Rendezvous:
 
     def meeting(self, own, remote, way, at_home, at_remote):
         """The rendezvous of a guard of the home and one of the remote. The receiver moves first: so
-        what it gets is still reckoned from the sender's variables as they were."""
+        what it gets is still computed from the sender's variables as they were."""
         condition = m.both([self.home.stands(at_home[0]), own.stands(at_remote[0]),
                             self.home.open(at_home[2]), own.open(at_remote[2]),
                             self.home.targets(at_home[2], remote)])
