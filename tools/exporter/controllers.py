@@ -1,12 +1,12 @@
 """The controllers of a protocol with N remotes and K slots as a machine: a rule for each row of the table
 and for each way in which a request that arrives is dealt with."""
 from exporter import machine as m
+from exporter.abstraction import DOWN, UP, abstraction
 from exporter.rendezvous import Rendezvous, claims_of, fields_of, line, listed, states_of
 
 REMOTE = ("remote",)
 MESSAGE, KIND = ("enum", "Message"), ("enum", "Kind")
 NO_MESSAGE, NOT_WAITING = "NoMessage", "NotWaiting"
-UP, DOWN = 2, 3
 
 
 class Controllers(Rendezvous):
@@ -152,11 +152,6 @@ class Controllers(Rendezvous):
         return m.both([self.home.stands(state), m.same(which, self.message(guard)),
                        self.home.open(guard), self.home.targets(guard, remote)])
 
-    def lies(self, way, remote, kind):
-        """A packet of this kind is on a link."""
-        return m.either([m.same("link[%s].%s[%d].kind" % (remote, way, number), kind)
-                         for number in range(UP if way == "up" else DOWN)])
-
     def functions(self):
         """What is asked of a configuration."""
         boolean = ("flag",)
@@ -185,67 +180,7 @@ class Controllers(Rendezvous):
                 self.idle(), m.compare(held, "=", m.word(self.slots)), completes,
                 m.negated(m.ask("SomeHeldCompletes"))]),
                 "The request that arrives displaces the last held one: no slot is free, and no held request completes a guard."),
-        ] + self.abstraction()
-
-    def abstraction(self):
-        """The states of the processes in the protocol. A process that waits may have been granted its
-        request and not know it yet."""
-        home, remote = ("enum", "HomeState"), ("enum", "RemoteState")
-        processes = self.protocol.home, self.protocol.remote
-
-        def chain(outputs, process, test, leads, otherwise):
-            result = m.word(otherwise)
-            for state, number, guard in reversed(outputs):
-                goal = leads(process, guard)
-                if goal is not None:
-                    result = m.choice(test(state, number), m.word(self.names.state(process, goal)), result)
-            return result
-
-        def after(process, guard):
-            return guard.goto
-
-        def after_reply(process, guard):
-            rest = process.states[guard.goto]
-            return rest[0].goto if len(rest) == 1 and rest[0].kind == "from" else None
-
-        def by_state(state, _):
-            return m.same("remote[r].state", self.names.state(processes[1], state))
-
-        def by_guard(state, number):
-            return m.same("home.waits", self.waits(state, number))
-
-        waits_on = [lambda i, test=test: m.both([m.contains(m.kept("home.awaits"), i), test(i)])
-                    for test in (lambda i: self.lies("up", i, "Reply"),
-                                 lambda i: m.either([self.lies("up", i, "Ack"),
-                                                     m.same("remote[%s].mode" % i, "Due")]))]
-        granted = m.either([self.lies("down", "r", "Ack"),
-                            m.negated(m.same("owed[r]", NO_MESSAGE))])
-        at = "remote[r].state"
-        return [
-            m.Function("AfterRequest", [("r", REMOTE)], remote, chain(
-                self.remote_outputs, processes[1], by_state, after, at),
-                "The state after the guard by which remote r waits."),
-            m.Function("AfterReply", [("r", REMOTE)], remote, chain(
-                self.remote_outputs, processes[1], by_state, after_reply, at),
-                "The state after that guard and the one that takes the reply."),
-            m.Function("AbstractState", [("r", REMOTE)], remote, m.choice(
-                m.negated(m.same("remote[r].mode", "Waiting")), m.word(at),
-                m.choice(self.lies("down", "r", "Reply"), m.ask("AfterReply", "r"),
-                         m.choice(granted, m.ask("AfterRequest", "r"), m.word(at)))),
-                "The abstraction: the state of remote r in the protocol, where a request that was granted is complete."),
-            m.Function("HomeAfterRequest", [], home, chain(
-                self.home_outputs, processes[0], by_guard, after, "home.state"),
-                "The state after the guard by which the home waits."),
-            m.Function("HomeAfterReply", [], home, chain(
-                self.home_outputs, processes[0], by_guard, after_reply, "home.state"),
-                "The state after that guard and the one that takes the reply."),
-            m.Function("AbstractHomeState", [], home, m.choice(
-                self.idle(), m.word("home.state"),
-                m.choice(m.some_remote(waits_on[0]), m.ask("HomeAfterReply"),
-                         m.choice(m.some_remote(waits_on[1]), m.ask("HomeAfterRequest"),
-                                  m.word("home.state")))),
-                "The abstraction: the state of the home in the protocol."),
-        ]
+        ] + abstraction(self)
 
     # ------------------------------------------------------------ steps of the home
 
@@ -407,25 +342,31 @@ class Controllers(Rendezvous):
             rules.append(m.Rule("up %s %s/%d" % ("reply" if reply else "ack", state, number), condition,
                                 moves + self.back() + [take], (line("home", state, number, guard),)))
         asked = comes("Request")
+        return rules + [m.Rule("up nack", answers[0], self.back() + [take])] + self.request_rules(
+            remote, awaited, asked) + [
+                m.Rule("up, not expected", m.both([m.negated(comes("Nothing")), m.negated(asked)]
+                                                  + [m.negated(one) for one in answers]),
+                       [m.must(m.FALSE, "what arrives at the home is expected")])]
+
+    def request_rules(self, remote, awaited, asked):
+        """A request arrives at the home: it is as good as a nack, or it is kept, displaces another
+        one or is nacked."""
+        take, hold = m.call("TakeUp", remote), m.call("Hold", remote)
         free = m.both([m.negated(awaited), asked])
+        kept, displaces = m.ask("IsKept", remote), m.ask("Displaces", remote)
+        held = m.word("home.held")
         room = [m.each_remote(lambda i: [m.when((
-            m.compare(m.word("held[%s].place" % i), "=", m.word("home.held")),
+            m.compare(m.word("held[%s].place" % i), "=", held),
             [m.put("held[%s].place" % i, m.word(0))] + self.fields("held[%s]" % i)
             + self.send("Down", i, "Nack")))]),
-            m.put("home.held", ("sum", "-", m.word("home.held"), m.word(1)))]
-        kept, displaces = m.ask("IsKept", remote), m.ask("Displaces", remote)
-        return rules + [
-            m.Rule("up nack", answers[0], self.back() + [take]),
+            m.put("home.held", ("sum", "-", held, m.word(1)))]
+        return [
             m.Rule("up request, as good as a nack", m.both([awaited, asked]),
-                   self.back() + [m.call("Hold", remote), take]),
-            m.Rule("up request, kept", m.both([free, kept]), [m.call("Hold", remote), take]),
-            m.Rule("up request, displaces", m.both([free, displaces]),
-                   room + [m.call("Hold", remote), take]),
+                   self.back() + [hold, take]),
+            m.Rule("up request, kept", m.both([free, kept]), [hold, take]),
+            m.Rule("up request, displaces", m.both([free, displaces]), room + [hold, take]),
             m.Rule("up request, nacked", m.both([free, m.negated(kept), m.negated(displaces)]),
-                   [take] + self.send("Down", remote, "Nack")),
-            m.Rule("up, not expected", m.both([
-                m.negated(comes("Nothing")), m.negated(asked)] + [m.negated(one) for one in answers]),
-                [m.must(m.FALSE, "what arrives at the home is expected")])]
+                   [take] + self.send("Down", remote, "Nack"))]
 
     def down_rules(self, remote):
         """A packet arrives at the remote."""
