@@ -1,5 +1,5 @@
-"""The abstraction as functions of the controllers' machine: the states of the processes in the protocol. A
-process that waits may have been granted its request and not know it yet."""
+"""The abstraction as functions of the controllers' machine: the states of the processes in the
+protocol. A process that waits may have been granted its request and not know it yet."""
 from exporter import machine as m
 
 UP, DOWN = 2, 3

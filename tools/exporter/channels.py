@@ -1,4 +1,5 @@
-"""Writes a protocol in Promela with rendezvous channels: a process for the home and one for each remote."""
+"""Writes a protocol in Promela with rendezvous channels: a process for the home and one for each
+remote."""
 from exporter import machine as m
 from exporter.guards import Body, assignments
 from exporter.murphi import ATOM
@@ -63,8 +64,8 @@ class OwnBody(Body):
 
 
 class Writer(Printer):
-    """Writes the processes. A node is a number, `none` for no remote; a set is a number with a bit for
-    each remote."""
+    """Writes the processes. A node is a number, `none` for no remote; a set is a number with a bit
+    for each remote."""
 
     def __init__(self, protocol, remotes):
         super().__init__(m.Machine([], remotes, {}, [], [], [], [], [], None, []))

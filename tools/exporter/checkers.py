@@ -9,8 +9,9 @@ import time
 
 EXPORT = os.path.join(os.path.dirname(os.path.dirname(os.path.realpath(__file__))), "export")
 SECONDS = 3600
-# What a checker found: how many states, how many rules or transitions, the fault, and the seconds of the
-# search alone. A fault of rumur is ("stuck" or "broken", length) or its text, one of Spin its kind.
+# What a checker found: how many states, how many rules or transitions, the fault, and the seconds
+# of the search alone. A fault of rumur is ("stuck" or "broken", length) or its text, one of Spin
+# its kind.
 Found = collections.namedtuple("Found", "states events fault seconds")
 
 

@@ -1,5 +1,5 @@
-"""The controllers of a protocol with N remotes and K slots as a machine: a rule for each row of the table
-and for each way in which a request that arrives is dealt with."""
+"""The controllers of a protocol with N remotes and K slots as a machine: a rule for each row of the
+table and for each way in which a request that arrives is dealt with."""
 from exporter import machine as m
 from exporter.abstraction import DOWN, UP, abstraction
 from exporter.rendezvous import Rendezvous, claims_of, fields_of, line, listed, states_of
@@ -10,8 +10,8 @@ NO_MESSAGE, NOT_WAITING = "NoMessage", "NotWaiting"
 
 
 class Controllers(Rendezvous):
-    """Writes the machine of a protocol's controllers. `replies` has the reply of each message that has
-    one in this mode."""
+    """Writes the machine of a protocol's controllers. `replies` has the reply of each message that
+    has one in this mode."""
 
     def __init__(self, protocol, remotes, slots, mode, replies, forget):
         super().__init__(protocol, remotes, forget)
@@ -23,7 +23,8 @@ class Controllers(Rendezvous):
     # ------------------------------------------------------------ what is kept
 
     def values(self):
-        """The fields of a value, one for numbers and one for nodes and sets, where messages carry such."""
+        """The fields of a value, one for numbers and one for nodes and sets, where messages carry
+        such."""
         kinds = [kind for kind in self.protocol.messages.values() if kind]
         bounds = [kind[1] for kind in kinds if kind[0] == "int"]
         fields = [m.Field("number", ("number", max(bounds)))] if bounds else []
@@ -112,7 +113,8 @@ class Controllers(Rendezvous):
     # ------------------------------------------------------------ functions and procedures
 
     def procedures(self):
-        """What puts a packet on a link and takes one off, and what holds a request and lets it go."""
+        """What puts a packet on a link and takes one off, and what holds a request and lets it
+        go."""
         made = []
         for way, most in (("Up", UP), ("Down", DOWN)):
             low = way.lower()
@@ -417,7 +419,8 @@ class Controllers(Rendezvous):
             self.names.state(self.protocol.remote, state))) for state in states])
 
     def bounds(self):
-        """What is bounded beside what the types bound and what is looked at where a packet is put."""
+        """What is bounded beside what the types bound and what is looked at where a packet is
+        put."""
         waits = m.negated(self.idle())
         held = m.word("home.held")
         return [("a slot is left while the home waits", m.either(

@@ -1,4 +1,5 @@
-"""The guards of a protocol as expressions and statements of a machine, and which variables matter."""
+"""The guards of a protocol as expressions and statements of a machine, and which variables
+matter."""
 import re
 
 from exporter import machine as m
@@ -8,8 +9,9 @@ RELATIONS = {"eq": "=", "ne": "!=", "lt": "<", "le": "<="}
 
 
 class Amount:
-    """A number that is computed: its expression and the greatest value that it can have. Where it is
-    a sum of which the remainder modulo 65,536 is still to be taken, `sum` is the sum's two sides."""
+    """A number that is computed: its expression and the greatest value that it can have. Where it
+    is a sum of which the remainder modulo 65,536 is still to be taken, `sum` is the sum's two
+    sides."""
 
     def __init__(self, expression, most, parts=None):
         self.expression, self.most, self.parts = expression, most, parts
@@ -124,7 +126,8 @@ class Body:
         return m.same(self.state(), self.names.state(self.process, state))
 
     def sent(self, guard):
-        """The value that an output sends: its expression, or None where the message carries nothing."""
+        """The value that an output sends: its expression, or None where the message carries
+        nothing."""
         kind = self.messages[guard.message]
         if not kind:
             return None

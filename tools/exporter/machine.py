@@ -1,7 +1,8 @@
 """A machine of guarded rules, which the printers write in the language of a checker.
 
-An expression is a tuple whose first item says what it is. A place where something is kept is a text,
-as `home.memory` or `remote[r].line`, and so is a constant. A node is a set of remotes of at most one.
+An expression is a tuple whose first item says what it is. A place where something is kept is a
+text, as `home.memory` or `remote[r].line`, and so is a constant. A node is a set of remotes of at
+most one.
 """
 import dataclasses
 
@@ -118,7 +119,8 @@ def put_set(place, remotes, kind="node"):
 
 
 def when(*cases, otherwise=()):
-    """The statements of the first case whose condition holds: each case is (condition, statements)."""
+    """The statements of the first case whose condition holds: each case is (condition,
+    statements)."""
     return ("when", cases, list(otherwise))
 
 
@@ -146,9 +148,9 @@ def copy(place, other):
 
 @dataclasses.dataclass
 class Field:
-    """What is kept: its name, its type and its first value. The type is ("number", N) for 0 to N - 1,
-    ("enum", NAME), ("remotes",), ("flag",), or ("record", NAME), with `count` of them where it is an
-    array, and `of_remote` where it is one with an entry for each remote."""
+    """What is kept: its name, its type and its first value. The type is ("number", N) for 0 to N -
+    1, ("enum", NAME), ("remotes",), ("flag",), or ("record", NAME), with `count` of them where it
+    is an array, and `of_remote` where it is one with an entry for each remote."""
     name: str
     type: tuple
     first: str = ""
