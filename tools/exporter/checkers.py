@@ -51,11 +51,12 @@ class Peers:
         self.run(["gcc", "-O0" if small else "-O2", "-w"] + words)
 
     def build_murphi(self, path, numbers, symmetry="off", options=()):
-        """Makes the search of a file's model: `symmetry` is off, heuristic or exhaustive."""
+        """Makes the search of a file's model: `symmetry` is off, heuristic or exhaustive. Schedules
+        of scalarsets serve readers of counterexamples alone, and cost much time."""
         self.export("model.m", ["murphi", path] + [str(number) for number in numbers] + list(options))
         self.run(["rumur", "model.m", "-o", "model.c", "--deadlock-detection=stuck",
                   "--value-type=int32_t", "--symmetry-reduction=" + symmetry, "--threads=1",
-                  "--output-format=machine-readable", "--quiet"])
+                  "--scalarset-schedules=off", "--output-format=machine-readable", "--quiet"])
         self.compile(numbers, ["-mcx16", "model.c", "-o", "model", "-lpthread", "-latomic"])
 
     def murphi(self, path, numbers, symmetry="off", options=()):
