@@ -1,4 +1,4 @@
-"""What tools/chart and tools/graph share: reading a protocol file, and telling a fault in a line.
+"""What tools/chart, tools/graph and tools/export share: reading a protocol file, and telling a fault in a line.
 
 A file is read as docs/LANGUAGE.md gives its grammar. Of names only those are looked up that a
 picture needs, so a file that is read here may still have a fault that `rvc check` tells.
@@ -50,8 +50,9 @@ class Guard:
 
 @dataclasses.dataclass
 class Process:
-    """The home's process or a remote's: first values by variable, guards by state."""
+    """The home's process or a remote's: first values and types by variable, guards by state."""
     variables: dict
+    types: dict
     start: str
     states: dict
 
@@ -162,11 +163,11 @@ class Reader:
     def process(self, messages):
         """What stands in the braces behind `home` or `remote`."""
         self.word("{")
-        variables = {}
+        variables, types = {}, {}
         while self.sees("var"):
             self.take()
             variable = self.name("a variable's name")
-            self.type()
+            types[variable] = self.type()
             self.word("=")
             first = self.word("none", "empty") if self.sees("none", "empty") else self.number()
             variables[variable] = "{}" if first == "empty" else first
@@ -194,7 +195,7 @@ class Reader:
             if target not in states:
                 self.at = at
                 raise self.fault("no state is named %s" % target)
-        return Process(variables, start, states)
+        return Process(variables, types, start, states)
 
     def guard(self, messages):
         """A guard, up to and with its `;`."""
