@@ -50,8 +50,9 @@ class Guard:
 
 @dataclasses.dataclass
 class Process:
-    """The home's process or a remote's: first values by variable, guards by state."""
+    """The home's process or a remote's: first values and types by variable, guards by state."""
     variables: dict
+    types: dict
     start: str
     states: dict
 
@@ -162,11 +163,11 @@ class Reader:
     def process(self, messages):
         """What stands in the braces behind `home` or `remote`."""
         self.word("{")
-        variables = {}
+        variables, types = {}, {}
         while self.sees("var"):
             self.take()
             variable = self.name("a variable's name")
-            self.type()
+            types[variable] = self.type()
             self.word("=")
             first = self.word("none", "empty") if self.sees("none", "empty") else self.number()
             variables[variable] = "{}" if first == "empty" else first
@@ -194,7 +195,7 @@ class Reader:
             if target not in states:
                 self.at = at
                 raise self.fault("no state is named %s" % target)
-        return Process(variables, start, states)
+        return Process(variables, types, start, states)
 
     def guard(self, messages):
         """A guard, up to and with its `;`."""
