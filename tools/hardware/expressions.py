@@ -68,8 +68,8 @@ class Scope:
         first = "%d'd0" % self.design.remotes if words[0] == "empty" else self.signal(words[0])
         if len(words) == 1:
             return first
-        return "%s %s %s_pkg::node_set(%s)" % (first, "|" if words[1] == "+" else "& ~",
-                                               self.design.name, self.node(words[2]))
+        return "%s_pkg::%s(%s, %s)" % (self.design.name, "set_with" if words[1] == "+" else "set_without",
+                                       first, self.node(words[2]))
 
     def value(self, words, kind):
         """An expression as a value of this type."""
@@ -87,9 +87,8 @@ class Scope:
         """A comparison."""
         kind = self.kind(left)
         if relation in ("in", "notin"):
-            mark = "" if relation == "in" else "~"
-            return "%s|(%s_pkg::node_set(%s) & (%s))" % (mark, self.design.name, self.node(left[0]),
-                                                        self.set_value(right))
+            return "%s_pkg::set_has(%s, %s) == 1'b%d" % (self.design.name, self.set_value(right),
+                                                         self.node(left[0]), relation == "in")
         sign = {"eq": "==", "ne": "!=", "lt": "<", "le": "<="}[relation]
         if kind == "int":
             width = max(bits_for(self.limit(left)), bits_for(self.limit(right)))

@@ -95,7 +95,7 @@ endtask
 
 // The first claim that is broken, or -1.
 integer claim_broken = -1;
-integer in_first, in_second, in_both;
+integer in_first, in_second;
 task check_claims;
   begin
     claim_broken = -1;
@@ -127,7 +127,8 @@ class Side:
                 if guard.kind == kind:
                     tests = [self.scope.condition(guard)]
                     if self.controller.word == "home" and kind != "tau":
-                        tests.append("|(%s & %s_pkg::id_set(partner))" % (self.scope.targets(guard), self.design.name))
+                        tests.append("(%s & %s_pkg::id_set(partner)) != %d'd0" % (
+                            self.scope.targets(guard), self.design.name, self.design.remotes))
                     test = " && ".join(text for text in tests if text)
                     lines = lines_of(guard)
                     arms[guard.number] = block("if (%s)" % test, lines) if test else lines
@@ -174,12 +175,12 @@ def claim_lines(design, side):
     for number, claim in reversed(list(enumerate(design.claims))):
         words = claim.split()
         lines += ["in_first = 0;", "in_second = 0;"]
-        if words[1] == "atmost":
-            lines += [counted("in_first", side, words[4:]), "if (in_first > %s) claim_broken = %d;" % (words[2], number)]
-        elif words[2] == words[4]:
-            lines += [counted("in_first", side, [words[2]]), "if (in_first > 1) claim_broken = %d;" % number]
+        if words[0] == "atmost":
+            lines += [counted("in_first", side, words[3:]), "if (in_first > %s) claim_broken = %d;" % (words[1], number)]
+        elif words[1] == words[3]:
+            lines += [counted("in_first", side, [words[1]]), "if (in_first > 1) claim_broken = %d;" % number]
         else:
-            lines += [counted("in_first", side, [words[2]]), counted("in_second", side, [words[4]]),
+            lines += [counted("in_first", side, [words[1]]), counted("in_second", side, [words[3]]),
                       "if (in_first > 0 && in_second > 0) claim_broken = %d;" % number]
     return lines
 

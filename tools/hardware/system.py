@@ -103,9 +103,9 @@ CLAIMS = """
 def claim_states(claim):
     """The lists of states of a claim: of `atmost` one list, of `not` two of one state each."""
     words = claim.split()
-    if words[1] == "atmost":
-        return [list(dict.fromkeys(words[4:]))]
-    return [[words[2]], [words[4]]]
+    if words[0] == "atmost":
+        return [list(dict.fromkeys(words[3:]))]
+    return [[words[1]], [words[3]]]
 
 
 def in_states(design, states):
@@ -120,9 +120,9 @@ def in_states(design, states):
 def broken(number, claim):
     """That a claim is broken, over the sets of remotes in its states."""
     words = claim.split()
-    if words[1] == "atmost":
-        return "claim_%d_count > 7'd%d" % (number, min(int(words[2]), 127))
-    if words[2] == words[4]:
+    if words[0] == "atmost":
+        return "claim_%d_count > 7'd%d" % (number, min(int(words[1]), 127))
+    if words[1] == words[3]:
         return "(claim_%d_0 & (claim_%d_0 - 1'b1)) != '0" % (number, number)
     return "claim_%d_0 != '0 && claim_%d_1 != '0" % (number, number)
 
