@@ -72,11 +72,7 @@ module @name@_home #(
   // The state of the protocol: that in which the home is or, while it waits, that which it left.
   logic waiting;
   logic [@pkg@::HOME_STATE_WIDTH-1:0] comm_state;
-  always_comb begin
-    waiting    = 1'b0;
-    comm_state = state_q;
-    @waiting@
-  end
+  @waiting@
 
   // tau_open: open local steps. send_to: for each guard the remotes to which an open output may go,
   // and send_message its message. useful: for each message the remotes whose request of it would
@@ -86,17 +82,14 @@ module @name@_home #(
   logic [GUARDS*DOWN_MESSAGE_WIDTH-1:0] send_message;
   logic [UP_MESSAGES*REMOTES-1:0]       useful;
   @guards_declared@
-  always_comb begin
-    @guards_none@
-    @guards@
-  end
+  @guards@
   @guards_joined@
 
   // held_set: the remotes of which a request is held. useful_set: those whose held request completes
   // a guard.
   logic [REMOTES-1:0]  held_set, useful_set;
   logic [ID_WIDTH-1:0] last_from;
-  always_comb begin
+  always @* begin
     held_set   = '0;
     useful_set = '0;
     last_from  = '0;
@@ -122,7 +115,7 @@ module @name@_home #(
 
   // The remotes that are targets of some open output.
   logic [REMOTES-1:0] output_set;
-  always_comb begin
+  always @* begin
     output_set = '0;
     for (int g = 0; g < GUARDS; g++) output_set = output_set | send_to[g*REMOTES +: REMOTES];
   end
@@ -193,7 +186,7 @@ module @name@_home #(
   // The remote of the step.
   logic [REMOTES-1:0]  partner_set;
   logic [ID_WIDTH-1:0] partner;
-  always_comb begin
+  always @* begin
     partner_set = do_take | do_drop | do_up;
     for (int g = 0; g < GUARDS; g++) partner_set = partner_set | do_send[g*REMOTES +: REMOTES];
   end
@@ -204,7 +197,7 @@ module @name@_home #(
 
   logic [UP_MESSAGE_WIDTH-1:0] taken_message;
   logic [UP_VALUE_WIDTH-1:0]   taken_value;
-  always_comb begin
+  always @* begin
     taken_message = '0;
     taken_value   = '0;
     for (int i = 0; i < ENTRIES; i++) begin
@@ -219,7 +212,7 @@ module @name@_home #(
   logic [1:0]                  arrived_kind;
   logic [UP_MESSAGE_WIDTH-1:0] arrived_message;
   logic [UP_VALUE_WIDTH-1:0]   arrived_value;
-  always_comb begin
+  always @* begin
     arrived = '0;
     for (int j = 0; j < REMOTES; j++) if (do_up[j]) arrived = arrived | up_packet[j*UP_WIDTH +: UP_WIDTH];
   end
@@ -241,7 +234,7 @@ module @name@_home #(
   logic [DOWN_VALUE_WIDTH-1:0]   put_value;
   logic                          put, owe, pay, remove, hold, displace;
   @owe_declared@
-  always_comb begin
+  always @* begin
     state_d   = state_q;
     wait_on_d = wait_on_q;
     @kept@
@@ -384,7 +377,9 @@ class Home:
         arms = {self.constant(place): ["waiting    = 1'b1;",
                                        "comm_state = %s;" % self.constant((place[0], "", 0))]
                 for place in self.controller.places() if place[1]}
-        return case("state_q", arms)
+        if not arms:
+            return ["assign waiting    = 1'b0;", "assign comm_state = state_q;"]
+        return block("always @*", ["waiting    = 1'b0;", "comm_state = state_q;"] + case("state_q", arms))
 
     def guards(self):
         """What the guards of each state allow."""
@@ -396,21 +391,29 @@ class Home:
             for number in numbers:
                 lines += self.guard_lines(self.controller.guards[place[0]][number])
             arms[self.constant(place)] = lines
-        return case("comm_state", arms)
+        none = ["%s = '0;" % name for name in self.guard_names()]
+        return block("always @*", none + case("comm_state", arms)) if arms else ["assign " + line for line in none]
 
-    def guard_parts(self):
-        """The signals of `guards`: declared, none of them set, and joined into vectors."""
+    def guard_names(self):
+        """The signals that `guards` sets."""
+        return [name for _, _, names in self.guard_signals() for name in names]
+
+    def guard_signals(self):
+        """The vectors of what the guards allow: of each its name, the width of a part, and the parts."""
         numbers = list(range(self.design.guard_count(self.controller)))
         messages = ["useful_%s" % message.constant.lower() for message in self.design.going("up")] or ["useful_none"]
-        parts = [("tau_open", "", ["tau_open_%d" % number for number in numbers]),
-                 ("send_to", "[REMOTES-1:0] ", ["send_to_%d" % number for number in numbers]),
-                 ("send_message", "[DOWN_MESSAGE_WIDTH-1:0] ", ["send_message_%d" % number for number in numbers]),
-                 ("useful", "[REMOTES-1:0] ", messages)]
+        return [("tau_open", "", ["tau_open_%d" % number for number in numbers]),
+                ("send_to", "[REMOTES-1:0] ", ["send_to_%d" % number for number in numbers]),
+                ("send_message", "[DOWN_MESSAGE_WIDTH-1:0] ", ["send_message_%d" % number for number in numbers]),
+                ("useful", "[REMOTES-1:0] ", messages)]
+
+    def guard_parts(self):
+        """The signals of `guards`: declared, and joined into vectors."""
+        parts = self.guard_signals()
         return dict(
             guards_declared=["logic %s%s;" % (width, ", ".join(names)) for _, width, names in parts],
-            guards_none=["%s = '0;" % name for _, _, names in parts for name in names],
             guards_joined=["assign %s = {%s};" % (joined, ", ".join(reversed(names))) for joined, _, names in parts],
-            up_message_count=len(messages))
+            up_message_count=len(parts[3][2]))
 
     def guard_lines(self, guard):
         """What a guard allows where it is open."""

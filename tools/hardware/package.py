@@ -3,7 +3,8 @@ from text import filled, indented
 
 PACKAGE = """
 // @name@: what its controllers share. Mode @mode@, @remotes@ remotes, @slots@ slots at the home.
-// Written by tools/rtl from the protocol's tables; not to be edited.
+// Written by tools/rtl from the protocol's tables; not to be edited. What is combinational stands in
+// always @*, since Icarus Verilog 11 runs some blocks of always_comb without end.
 /* verilator lint_off UNUSEDPARAM */
 package @name@_pkg;
   localparam REMOTES = @remotes@;
@@ -68,7 +69,7 @@ package @name@_pkg;
 
   // The set of this one remote.
   function automatic logic [REMOTES-1:0] id_set(input logic [ID_WIDTH-1:0] id);
-    for (int i = 0; i < REMOTES; i++) id_set[i] = id == ID_WIDTH'(i);
+    id_set = @remotes@'d1 << id;
   endfunction
 
   // The set of the remote of a node, empty if it has none.
@@ -89,8 +90,7 @@ package @name@_pkg;
 
   // The number of the one remote of a set.
   function automatic logic [ID_WIDTH-1:0] set_id(input logic [REMOTES-1:0] set);
-    set_id = @id_width@'d0;
-    for (int i = 0; i < REMOTES; i++) if (set[i]) set_id = set_id | ID_WIDTH'(i);
+    set_id = {@id_bits@};
   endfunction
 endpackage
 /* verilator lint_on UNUSEDPARAM */
@@ -218,7 +218,14 @@ def package_lines(design):
         home_guards=design.guard_count(design.home),
         home_guard_width=bits_for(design.guard_count(design.home)),
         remote_guard_width=bits_for(design.guard_count(design.remote)),
-        local_steps=local_steps(design))
+        local_steps=local_steps(design), id_bits=", ".join(reversed(id_bits(design))))
+
+
+def id_bits(design):
+    """For each bit of a number, lowest first, that the set has a remote whose number has it."""
+    masks = [sum(1 << remote for remote in range(design.remotes) if remote >> bit & 1)
+             for bit in range(design.id_width)]
+    return ["(set & %d'h%x) != %d'd0" % (design.remotes, mask, design.remotes) for mask in masks]
 
 
 def link_lines(design):

@@ -58,13 +58,7 @@ module @name@_remote (
   // ---- which steps are enabled
 
   logic can_tau, can_answer, can_send, can_reply;
-  always_comb begin
-    can_tau    = 1'b0;
-    can_answer = 1'b0;
-    can_send   = 1'b0;
-    can_reply  = 1'b0;
-    @enabled@
-  end
+  @enabled@
 
   // A packet comes first, then what the home waits for, then what the remote wants itself: of those
   // that are allowed the one with the highest bit, which is the order of the bits of a step.
@@ -81,7 +75,7 @@ module @name@_remote (
 
   // ---- what the step does
 
-  always_comb begin
+  always @* begin
     state_d        = state_q;
     slot_valid_d   = slot_valid_q;
     slot_message_d = slot_message_q;
@@ -234,7 +228,8 @@ class Remote:
             if any(row.on.startswith("answer") for row in rows):
                 lines.append("can_answer = slot_valid_q && up_ready;")
             arms[self.constant(place)] = lines
-        return case("state_q", arms)
+        none = ["can_%s = 1'b0;" % step for step in ("tau", "answer", "send", "reply")]
+        return block("always @*", none + case("state_q", arms)) if arms else ["assign " + line for line in none]
 
     def tau_open(self, guard):
         """That a local step is asked for and open."""

@@ -140,7 +140,7 @@ def claim_lines(design):
             inside.append("assign %s[j] = %s;" % (name, in_states(design, states)))
         if len(lists) == 1:
             declared.append("logic [6:0] claim_%d_count;" % number)
-            counted += ["always_comb begin", "  claim_%d_count = '0;" % number,
+            counted += ["always @* begin", "  claim_%d_count = '0;" % number,
                         "  for (int j = 0; j < REMOTES; j++) claim_%d_count = claim_%d_count + {6'd0, %s[j]};" % (
                             number, number, sets[0]), "end"]
         asserted.append('assert (!(%s)) else $error("claim %d is broken: %s");' % (broken(number, claim), number, claim))
