@@ -102,7 +102,7 @@ def guard_of(number, guard):
     is_input = guard.kind == "from"
     return Guard(number, guard.kind, guard.partner.split(), guard.message,
                  () if is_input else guard.value, guard.value[0] if is_input and guard.value else None,
-                 atoms, assigns, guard.goto, "%s goto %s" % ("  ".join(guard.parts()), guard.goto))
+                 atoms, assigns, guard.goto, "%s goto %s" % (" ".join(guard.parts()), guard.goto))
 
 
 class Controller:

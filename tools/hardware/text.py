@@ -40,11 +40,12 @@ def case(of, arms, default=()):
 
 def choice(arms):
     """`if .. else if ..` over (condition, lines); an empty condition is an else."""
+    if not arms[0][0]:
+        return arms[0][1]
     lines = []
     for condition, body in arms:
         if not lines:
-            head = "if (%s) begin" % condition if condition else "begin"
-            lines.append(head)
+            lines.append("if (%s) begin" % condition)
         else:
             lines[-1] = "end else if (%s) begin" % condition if condition else "end else begin"
         lines += indented(body) + ["end"]
