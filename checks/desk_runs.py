@@ -217,8 +217,8 @@ def open_in_chromium(tried, path, words, out):
     # By hand, from docs/REFINEMENT.md: step 4 takes the request, and the remote is in R*.
     tried.see("report in Chromium: the step", page.texts.get("step") == "4 home take 0"
               and page.texts.get("said") == "up 0 0 0 req"
-              and "G o=none j=#0 d=0 held[] owed[0:gr]" in page.texts.get("standing", ""), page.texts.get(
-                  "standing"))
+              and "G o=none j=#0 d=0 held[] owed[0:gr]" in page.texts.get("states", ""), page.texts.get(
+                  "states"))
     rows = [row for mode in ("plain", "lean") for row in re.findall(
         r"^  .*", tried.rvc(["table", path, mode]), re.M)]
     expected = sum("nack" in row for row in rows)

@@ -1,4 +1,4 @@
-// The page of tools/report: the player of a trace, and the filter of the tables.
+// The page of tools/report: stepping through a trace, and the filter of the tables.
 "use strict";
 (function () {
   const find = (name) => document.getElementById(name);
@@ -13,7 +13,7 @@
     find("slide").value = at;
     find("step").textContent = shot.step;
     find("said").textContent = [shot.named, shot.said].filter(Boolean).join(" = ");
-    const table = find("standing");
+    const table = find("states");
     table.textContent = "";
     shot.at.forEach(([text, moved], who) => {
       const row = table.insertRow();
@@ -44,16 +44,16 @@
     find("shown").textContent = shown + " of " + rows.length + " rows";
   }
 
-  function play() {
+  function run() {
     clearInterval(timer);
     timer = timer === null ? setInterval(() => show(at + 1), 700) : null;
-    find("play").textContent = timer === null ? "play" : "pause";
+    find("run").textContent = timer === null ? "run" : "pause";
   }
 
   find("first").onclick = () => show(0);
   find("back").onclick = () => show(at - 1);
   find("on").onclick = () => show(at + 1);
-  find("play").onclick = play;
+  find("run").onclick = run;
   find("slide").oninput = (event) => show(Number(event.target.value));
   find("filter").oninput = (event) => filter(event.target.value);
   document.addEventListener("keydown", (event) => {

@@ -9,7 +9,7 @@ HOME = """
 //
 // It takes packets off the up links, holds the requests that it can't take yet, and puts packets on
 // the down links. Which of the enabled steps is taken is chosen by an arbiter. Each row of the
-// controller stands as a comment before the lines that it became.
+// controller is a comment before the lines that it became.
 //
 @table@
 module @name@_home #(
@@ -259,7 +259,7 @@ module @name@_home #(
   assign owed_d = owe ? owed_q | partner_set : pay ? owed_q & ~partner_set : owed_q;
   @owed_next@
 
-  // One that leaves lets those behind it move up. A new request is held last: in the first free entry
+  // One that leaves lets those after it move up. A new request is held last: in the first free entry
   // and in those after it, which aren't looked at until then, or in the entry of the last request,
   // which it displaces.
   assign held_valid_d = remove ? held_valid_q >> 1 : hold ? (held_valid_q << 1) | @one_entry@ : held_valid_q;
@@ -268,7 +268,7 @@ module @name@_home #(
   for (genvar i = 0; i < ENTRIES; i++) begin : entry
     assign leaves[i] = held_valid_q[i] && held_from_q[i*ID_WIDTH +: ID_WIDTH] == partner;
     assign enters[i] = (hold && !held_valid_q[i]) || (displace && held_from_q[i*ID_WIDTH +: ID_WIDTH] == last_from);
-    // The entry behind this one, if there is one.
+    // The entry after this one, if there is one.
     localparam NEXT = i + 1 < ENTRIES ? i + 1 : i;
     assign held_from_d[i*ID_WIDTH +: ID_WIDTH] = enters[i] ? partner
       : moves[i] ? held_from_q[NEXT*ID_WIDTH +: ID_WIDTH] : held_from_q[i*ID_WIDTH +: ID_WIDTH];

@@ -3,7 +3,7 @@ from text import filled, indented
 
 PACKAGE = """
 // @name@: what its controllers share. Mode @mode@, @remotes@ remotes, @slots@ slots at the home.
-// Written by tools/rtl from the protocol's tables; not to be edited. What is combinational stands in
+// Written by tools/rtl from the protocol's tables; not to be edited. What is combinational is in
 // always @*, since Icarus Verilog 11 runs some blocks of always_comb without end.
 /* verilator lint_off UNUSEDPARAM */
 package @name@_pkg;
