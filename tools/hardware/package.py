@@ -33,8 +33,8 @@ package @name@_pkg;
   localparam UP_WIDTH = @up_width@;
   localparam DOWN_WIDTH = @down_width@;
 
-  // Where the controllers are: in a state of the protocol, in one that waits for the answer to a
-  // request (_WAIT), or in one that owes the home a reply (_DUE).
+  // The states of the controllers: those of the protocol, those that wait for the answer to a
+  // request (_WAIT), and those that owe the home a reply (_DUE).
   @home_places@
   @remote_places@
   localparam HOME_STATE_WIDTH = @home_state_width@;

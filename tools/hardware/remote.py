@@ -7,7 +7,7 @@ REMOTE = """
 // The controller of a remote of @name@: at most one step a clock.
 //
 // It takes packets off its down link and puts packets on its up link. A local step of the protocol
-// is taken where the port asks for it. Each row of the controller is a comment before the
+// is taken if the port asks for it. Each row of the controller is a comment before the
 // lines that it became.
 //
 @table@

@@ -13,10 +13,10 @@ module @name@_system #(
   input  logic [@pkg@::REMOTES*@pkg@::REMOTE_GUARD_WIDTH-1:0]    local_guard,
   output logic [@pkg@::REMOTES-1:0]                                  local_ready,
   input  logic [@pkg@::HOME_GUARDS-1:0]                              home_local_allow,
-  // Which kinds of step may be taken in this clock; all ones lets everybody run.
+  // Which kinds of step may be taken in this clock; all ones lets every controller run.
   input  logic [@pkg@::HOME_STEPS-1:0]                               home_step_allow,
   input  logic [@pkg@::REMOTES*@pkg@::REMOTE_STEPS-1:0]          remote_step_allow,
-  // The home's step, where ARBITER is ARBITER_PORT.
+  // The home's step, if ARBITER is ARBITER_PORT.
   input  logic [@pkg@::HOME_STEPS-1:0]                               choice_step,
   input  logic [@pkg@::HOME_GUARD_WIDTH-1:0]                         choice_guard,
   input  logic [@pkg@::ID_WIDTH-1:0]                                 choice_remote,

@@ -9,7 +9,7 @@ TESTBENCH = """
 //   +steps=FILE  lockstep: one step of FILE a clock; the log is the trace that `rvc run` writes. Needs
 //                ARBITER_PORT, which is the testbench's own parameter.
 //   +clocks=C +seed=S [+busy=B]
-//                free: everybody steps at once for C clocks, chosen by S; of 8 clocks each kind of step
+//                free: all controllers step at once for C clocks, chosen by S; of 8 clocks each kind of step
 //                is allowed in about B (default 6). The log is a schedule for `rvc run`, in each clock
 //                the home's step first.
 //   +log=FILE    where the log goes.   +end=FILE  where the states at the end go, in a free run.
