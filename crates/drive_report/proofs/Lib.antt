@@ -1,4 +1,5 @@
 pub mod NoneReady
+pub mod AllReady
 pub mod EnabledByKind
 pub mod Doing
 pub mod StillRemotes

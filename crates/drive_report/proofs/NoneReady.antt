@@ -163,7 +163,7 @@ module _ (P : Step → Type 0) (m n : ℕ) (each : AllByRecursion P (from_tau m 
   at_down = AllByRecursion-back P (steps_below n (λ j. step.Up j)) (from_down m n) at_up
 
   -- What holds of each step of the list holds of each step with numbers in range.
-  each-within : (s : Step) → IsWithin m n s → P s
+  pub each-within : (s : Step) → IsWithin m n s → P s
   each-within (step.HomeTau g) within =
       steps_below-each P m (λ i. step.HomeTau i)
       (AllByRecursion-front P (steps_below m (λ i. step.HomeTau i)) (from_take m n) each) g within

@@ -1,11 +1,12 @@
 //! What the ready list is for. These functions do nothing: their contracts are the laws.
 
-ghost use Rattle.std.specs.Prelude.{◌≡◌, ◌≤◌, ℕ, true, List, []};
-ghost use Rattle.std.specs.List.{AllByRecursion};
+ghost use Rattle.std.specs.Prelude.{◌≡◌, ◌↔◌, ◌≤◌, ℕ, true, false, List, []};
+ghost use Rattle.std.specs.List.{AllByRecursion, Contains};
 ghost use Rattle.proto_model.specs.Proper.{IsProper};
 ghost use Rattle.controller_table.specs.Sound.{protocol_of};
 ghost use Rattle.async_shape.specs.Setting.{Setting};
 ghost use Rattle.async_shape.specs.Config.{Config, start};
+ghost use Rattle.async_shape.specs.Next.{is_enabled};
 ghost use Rattle.async_shape.specs.Run.{run};
 ghost use Rattle.async_shape.specs.Shape.{IsShaped};
 ghost use Rattle.async_shape.specs.declared.step.Step.{Step};
@@ -31,6 +32,19 @@ pub fn no_new_deadlock()
         → AllByRecursion (λ (c : Config). ready_list setting c ≡ []
         → IsStill setting.protocol (abstraction setting.protocol c))
         (run setting (start setting.protocol n) steps) }
+{}
+
+/// The ready list has exactly the enabled steps. Each step in it is enabled. For a proper protocol
+/// each enabled step is in it, whatever its numbers: none is enabled that names a remote which isn't
+/// there, or a guard which a state can't have. So it is empty exactly where no step is enabled. This
+/// holds of every configuration, and so of each that has the shape.
+pub fn ready_is_what_is_enabled()
+    ensures enabled { (setting : Setting) (c : Config) (s : Step)
+        → Contains (ready_list setting c) s → is_enabled setting c s ≡ true }
+    ensures all { (setting : Setting) (c : Config) (s : Step) → IsProper setting.protocol
+        → is_enabled setting c s ≡ true → Contains (ready_list setting c) s }
+    ensures none { (setting : Setting) (c : Config) → IsProper setting.protocol
+        → ((ready_list setting c ≡ []) ↔ ((s : Step) → is_enabled setting c s ≡ false)) }
 {}
 
 /// The same of the configuration in which a machine stands.
