@@ -1,6 +1,6 @@
 //! The rendezvous configuration for which the configuration of a machine stands.
 
-ghost use Rattle.std.specs.Prelude.{◌≡◌, ◌<◌, ◌≤◌, length, take, map, IfOk};
+ghost use Rattle.std.specs.Prelude.{◌≡◌, ◌<◌, ◌≤◌, length, take, drop, map, IfOk};
 ghost use Rattle.proto_model.specs.Rendezvous.{IsConfigOf};
 ghost use Rattle.proto_model.specs.declared.rendezvous.Part.{Part};
 ghost use Rattle.controller_table.specs.Sound.{protocol_of};
@@ -135,7 +135,9 @@ pub fn abstract_states<L: Links>(machine: &Machine<L>, states: &mut [u8])
     ensures states { take (length machine.now.remotes) states.new
         ≡ map (λ (part : Part). part.state) (spec.abstraction (protocol_of machine.now.table)
         (standing.config L.lists machine.now)).remotes }
-    ensures room { length machine.now.remotes ≤ length states.new }
+    ensures rest { drop (length machine.now.remotes) states.new
+        ≡ drop (length machine.now.remotes) states.old }
+    ensures room { length states.new ≡ length states.old }
 {
     for place in 0..machine.n() {
         states[place as usize] = remote_part(machine, place).state;

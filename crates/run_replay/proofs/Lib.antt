@@ -1,5 +1,7 @@
 pub mod StepWords
 pub mod PlayedRuns
+pub mod FirstStop
+pub mod StopsMean
 pub mod Listing
 pub mod Shown
 pub mod MessagesBehind

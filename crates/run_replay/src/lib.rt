@@ -6,7 +6,7 @@
 //! - `told_words`: what is told of a step.
 //! - `run_trace`: the texts of which a trace is made.
 //! - `run_player`: the machine, its claims, and the call that plays a schedule on it.
-//! - `laws`: that what a schedule plays is a run.
+//! - `laws`: that what a schedule plays is a run; `stops`: where it stops.
 #![tactic(auto)]
 
 pub mod laws;
@@ -14,6 +14,7 @@ mod run_player;
 mod run_trace;
 mod state_lines;
 mod steps;
+pub mod stops;
 mod told_words;
 
 pub use run_player::{RunPlayer, replay};

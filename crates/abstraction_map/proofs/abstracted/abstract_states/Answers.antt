@@ -1,9 +1,9 @@
 -- One more state, in its place.
-use Rattle.std.proofs.Common.{◌≡◌, ◌<◌, ◌≤◌, ℕ, ◌+◌, List, [], ◌∷◌, map, take, set, length}
+use Rattle.std.proofs.Common.{◌≡◌, ◌<◌, ◌≤◌, ℕ, ◌+◌, List, [], ◌∷◌, map, take, drop, set, length}
 use Rattle.std.proofs.Common.{refl, sym, ap, subst, ◌∙◌, arith}
 use Rattle.std.specs.List.{range_with_len}
 use Rattle.std.proofs.lemmas.Grind.{take-set_at}
-use Rattle.std.proofs.lemmas.List.{map-append, length-set}
+use Rattle.std.proofs.lemmas.List.{map-append, length-set, drop-set-lt}
 use Rattle.std.proofs.lemmas.List.FromFn.{map-range_with_len_more}
 use Rattle.proto_model.specs.declared.rendezvous.Part.{Part}
 use Rattle.controller_table.specs.Sound.{protocol_of}
@@ -32,11 +32,15 @@ loop-place-preserved g c =
     let view_of = view_at protocol (config g.L.Links.lists machine) in
     let within : c.loop-place.place < length machine.remotes = rw c.n-place-end.ensures at
     c.loop-place-test.true in
-    let room = c.loop-place.invariant.room in
+    let loop = c.loop-place in
+    let n = length machine.remotes in
+    let room : n ≤ length c.args.states.old = c.requires in
+    let same : length loop.states ≡ length c.args.states.old = loop.invariant.room in
+    let given = c.remote_part.result.state in
     record {
-      room = subst (λ (n : ℕ). length machine.remotes ≤ n)
-          (sym (length-set c.loop-place.states c.loop-place.place c.remote_part.result.state)) room;
-      so_far = one_more (λ (j : ℕ). part_in_view protocol.remote (view_of j)) c.loop-place.place
-          c.loop-place.states c.remote_part.result (omega (arith, within, room))
-          c.loop-place.invariant.so_far c.remote_part.ensures;
+      room = length-set loop.states loop.place given ∙ same;
+      rest = drop-set-lt n loop.states loop.place given within ∙ loop.invariant.rest;
+      so_far = one_more (λ (j : ℕ). part_in_view protocol.remote (view_of j)) loop.place
+          loop.states c.remote_part.result (omega (arith, within, room, same))
+          loop.invariant.so_far c.remote_part.ensures;
     }

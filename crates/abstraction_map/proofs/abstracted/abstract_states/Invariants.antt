@@ -1,5 +1,5 @@
--- The states of the remotes so far are those in the abstraction.
-use Rattle.std.proofs.Common.{◌≡◌, ◌≤◌, length, take, map}
+-- The states of the remotes so far are those in the abstraction, and the other places stay.
+use Rattle.std.proofs.Common.{◌≡◌, length, take, drop, map}
 use Rattle.std.specs.List.{range_with_len}
 use Rattle.proto_model.specs.declared.rendezvous.Part.{Part}
 use Rattle.controller_table.specs.Sound.{protocol_of}
@@ -13,7 +13,9 @@ invariant-loop-place g l =
     let protocol = protocol_of l.machine.table in
     let view_of = view_at protocol (config g.L.Links.lists l.machine) in
     record {
-      room : length l.machine.remotes ≤ length l.states;
+      room : length l.states ≡ length l.fn.states;
+      rest : drop (length l.machine.remotes) l.states
+          ≡ drop (length l.machine.remotes) l.fn.states;
       so_far : take l.place l.states ≡ map (λ (part : Part). part.state)
           (map (λ j. part_in_view protocol.remote (view_of j)) (range_with_len 0 l.place));
     }

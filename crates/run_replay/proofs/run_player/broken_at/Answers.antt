@@ -12,12 +12,18 @@ abstract_states-requires g c =
     shaped-few (setting machine) (config g.L.Links.lists machine) c.shaped.ensures
 
 pub slice_bounds-states-end : goal.slice_bounds-states-end
-slice_bounds-states-end g c = rw c.n.ensures c.abstract_states.ensures.room
+slice_bounds-states-end g c =
+    let machine = c.args.machine.now in
+    rw (c.n.ensures, c.abstract_states.ensures.room)
+    (shaped-few (setting machine) (config g.L.Links.lists machine) c.shaped.ensures)
 
 pub slice_bounds-broken_among-end : goal.slice_bounds-broken_among-end
 slice_bounds-broken_among-end g c =
+    let machine = c.args.machine.now in
     let states : List ℕ = c.abstract_states.new.states in
-    let room : c.n.result ≤ length states = rw c.n.ensures c.abstract_states.ensures.room in
+    let room : c.n.result ≤ length states =
+    rw (c.n.ensures, c.abstract_states.ensures.room)
+    (shaped-few (setting machine) (config g.L.Links.lists machine) c.shaped.ensures) in
     sym (length-take-le c.n.result states room)
 
 pub returns : goal.returns
