@@ -1,6 +1,6 @@
 -- One more state, in its place.
 use Rattle.std.proofs.Common.{◌≡◌, ◌<◌, ◌≤◌, ℕ, ◌+◌, List, [], ◌∷◌, map, take, drop, set, length}
-use Rattle.std.proofs.Common.{refl, sym, ap, subst, ◌∙◌, arith}
+use Rattle.std.proofs.Common.{refl, sym, ap, ◌∙◌, arith}
 use Rattle.std.specs.List.{range_with_len}
 use Rattle.std.proofs.lemmas.Grind.{take-set_at}
 use Rattle.std.proofs.lemmas.List.{map-append, length-set, drop-set-lt}
@@ -34,8 +34,8 @@ loop-place-preserved g c =
     c.loop-place-test.true in
     let loop = c.loop-place in
     let n = length machine.remotes in
-    let room : n ≤ length c.args.states.old = c.requires in
-    let same : length loop.states ≡ length c.args.states.old = loop.invariant.room in
+    let room : n ≤ length c.args.states.now = c.requires in
+    let same : length loop.states ≡ length c.args.states.now = loop.invariant.room in
     let given = c.remote_part.result.state in
     record {
       room = length-set loop.states loop.place given ∙ same;
