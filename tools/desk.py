@@ -1,8 +1,5 @@
 """What the tools at the desk share: the program `rvc`, called once or fed line by line, and the
 protocol file with its parts.
-
-RVC_PROGRAM in the environment names the program to call; without it that is the launcher `rvc` of
-this repository, which builds it if need be.
 """
 import os
 import re
@@ -14,6 +11,7 @@ sys.path.insert(0, os.path.join(TOP, "tools", "launcher"))
 sys.path.insert(0, os.path.join(TOP, "tools"))
 from faults import first_fault  # noqa: E402
 from forms import word_fault  # noqa: E402
+from program import program, quiet  # noqa: E402
 from protocol import Misfit, read_protocol  # noqa: E402
 from protocol_file import Fault, read_text  # noqa: E402
 from traces import BLOCK, standing_of, start_of  # noqa: E402
@@ -22,17 +20,11 @@ from traces import BLOCK, standing_of, start_of  # noqa: E402
 MARKS = {"rv": "tau 99999 0", "run": "up 99999"}
 
 
-def program():
-    """The path of the program, and the environment in which it explains nothing."""
-    path = os.environ.get("RVC_PROGRAM") or os.path.join(TOP, "rvc")
-    return path, dict(os.environ, RVC_QUIET="1")
-
-
 def answer(words, given=""):
     """The status and the text of a call of the program with this standard input."""
-    path, environment = program()
+    path = program()
     try:
-        done = subprocess.run([path] + words, input=given.encode("latin-1"), env=environment,
+        done = subprocess.run([path] + words, input=given.encode("latin-1"), env=quiet(),
                               stdout=subprocess.PIPE, check=False)
     except OSError as fault:
         raise Fault("%s: %s" % (path, fault.strerror))
@@ -67,9 +59,9 @@ class Run:
                                         words[0] == "run")
                           for who in [None] + list(range(int(words[2])))}
         self.claim = None
-        path, environment = program()
+        path = program()
         try:
-            self.process = subprocess.Popen([path] + words, stdin=subprocess.PIPE, env=environment,
+            self.process = subprocess.Popen([path] + words, stdin=subprocess.PIPE, env=quiet(),
                                             stdout=subprocess.PIPE)
         except OSError as fault:
             raise Fault("%s: %s" % (path, fault.strerror))
