@@ -9,6 +9,7 @@ import sys
 TOP = os.path.dirname(os.path.dirname(os.path.realpath(__file__)))
 sys.path.insert(0, os.path.join(TOP, "tools", "launcher"))
 sys.path.insert(0, os.path.join(TOP, "tools"))
+from explain import misfit_sentences  # noqa: E402
 from faults import first_fault  # noqa: E402
 from forms import word_fault  # noqa: E402
 from program import program, quiet  # noqa: E402
@@ -33,13 +34,19 @@ def answer(words, given=""):
     return done.returncode, done.stdout.decode("latin-1")
 
 
+def no_protocol(path, text, misfit):
+    """The Fault of a file that spells no protocol: the line of the first error, and why."""
+    return Fault("%s:%d: code 1: %s" % (path or "standard input", misfit.piece.line,
+                                        " ".join(misfit_sentences(misfit, text))))
+
+
 def protocol_at(path):
     """The protocol that a file spells, a Part of protocol.py; a Fault where it isn't well-formed."""
+    text = read_text(path)
     try:
-        file = read_protocol(read_text(path))
+        file = read_protocol(text)
     except Misfit as misfit:
-        raise Fault("%s:%d: not a protocol from here on; `rvc check` says more"
-                    % (path, misfit.piece.line))
+        raise no_protocol(path, text, misfit)
     fault = first_fault(file)
     if fault is not None:
         raise Fault("%s:%d: code %d: %s" % (path, fault.line, fault.code, fault.sentences[0]))
