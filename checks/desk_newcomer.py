@@ -82,7 +82,8 @@ TYPED = [
     ("tools/measure own.rv 3 plain 2 --steps steps", 0, "^events +6$"),
     ("tools/report own.rv 3 2 plain --steps steps -o own.html && test -s own.html", 0, ""),
     ("tools/export murphi own.rv 3 > own.m && grep -c '^rule' own.m || true", 0, ""),
-    ("tools/rtl own.rv lean 3 2 -o rtl", 0, "meet_home.sv"),
+    ("tools/rtl own.rv 3 2 lean -o rtl", 0, "meet_home.sv"),
+    ("tools/rtl own.rv lean 3 2 -o other > out && diff -r rtl other", 0, ""),
     # What goes wrong is said with its line, by the launcher and by what needs no program.
     ("sed 's/goto Wait;/goto Wating;/' own.rv > typo.rv; ./rvc check typo.rv", 2,
      "Is `Wait` meant"),
