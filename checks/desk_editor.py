@@ -178,7 +178,13 @@ def find_problems(tried, client):
 
 
 def try_neovim(tried):
-    """neovim, a real client: diagnostics, hover, definition, references, and layout."""
+    """neovim, a real client, if it is installed."""
+    with tried.if_installed():
+        open_in_neovim(tried)
+
+
+def open_in_neovim(tried):
+    """Diagnostics, hover, definition, references, and layout."""
     if not shutil.which("nvim"):
         print("desk: not tried: neovim, which isn't installed")
         return

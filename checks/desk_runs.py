@@ -71,13 +71,20 @@ def try_measure(tried):
         for word, name in SAME.items():
             tried.see("measure, %s of %s" % (word, words), rows.get(name) == [drive[word]],
                       (rows.get(name), drive[word], found[2]))
-    rows = table_of(tried.tool("measure", [example("migratory.rv"), "1", "lean", "2", "--steps",
-                                           example("migratory.steps")])[1])
+    text = tried.tool("measure", [example("migratory.rv"), "1", "lean", "2", "--steps",
+                                  example("migratory.steps")])[1]
+    rows = table_of(text)
     # The request is sent by step 2, taken by step 4 and answered by step 5, the last event.
     by_hand = {"steps": "6", "events": "3", "packets an event": "0.67", "steps until taken, most": "2",
                "requests of remotes taken": "1", "steps until answered, most": "3",
                "longest wait, remote 0": "2", "last event at step": "5"}
     tried.see("measure by hand", {name: rows[name][0] for name in by_hand} == by_hand, rows)
+    found = [(title, re.findall(r"^ +(\S+) +(\d+) +(#*)$", part, re.M)) for title, part in re.findall(
+        r"^(steps until \w+, lean, K 2)\n((?: .*\n?)*)", text, re.M)]
+    mark = "#" * 50
+    tried.see("measure by hand: histograms", found == [
+        ("steps until taken, lean, K 2", [("1", "0", ""), ("2", "1", mark)]),
+        ("steps until answered, lean, K 2", [("1", "0", ""), ("2", "0", ""), ("3-4", "1", mark)])], text)
     sweep(tried)
     for words, status in ((["x.rv", "2", "lean", "2"], 1), ([example("lock.rv"), "65", "lean", "2"], 1),
                           ([example("lock.rv"), "2", "lean"], 2), ([example("lock.rv"), "2", "2"], 2),
@@ -99,7 +106,7 @@ def sweep(tried):
         with open(name, encoding="ascii") as file:
             picture = file.read()
         groups = xml.dom.minidom.parseString(picture).getElementsByTagName("g")
-        tried.see("measure: a picture", len(groups) == 5, len(groups))
+        tried.see("measure: a picture", len(groups) == 9, len(groups))
         # A wait for which nothing ever comes: the request of a remote that nobody takes.
         found = tried.tool("measure", [example("small.rv"), "1", "plain", "2", "--steps", "-"],
                            "remote 0 send\nup 0\n" + "up 0\n" * 5)
@@ -167,7 +174,8 @@ def try_report(tried):
                 with open(example(steps), encoding="latin-1") as file:
                     look_at_player(tried, name, [path] + words, file.read(), text)
             if name == "migratory.rv":
-                open_in_chromium(tried, path, words, out)
+                with tried.if_installed():
+                    open_in_chromium(tried, path, words, out)
     for words, status in ((["no such", "-o", "x"], 1), ([path], 2), ([path, "2", "-o", "x"], 2),
                           ([path, "2", "1", "lean", "-o", "x"], 1)):
         tried.see("report %s" % words[1:], tried.tool("report", words)[0] == status, "status")

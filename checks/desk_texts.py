@@ -149,7 +149,7 @@ def try_advise(tried):
                 "%s %s/%d" % (state, process, number) in never for number in range(guards)), never)
     for text, status, says in (
             (CLEAN, 0, ""), (CLEAN.replace("count lt 3", "count eq 4"), 1, ""),
-            ("protocol p;\nmessage a up\n", 2, ":3: not a protocol"),
+            ("protocol p;\nmessage a up\n", 2, ":3: code 1: The file ends here"),
             (CLEAN.replace("give(count)", "give(holder)"), 2, ":12: code 14")):
         with kept(text) as path:
             found = tried.tool("advise", [path])
@@ -243,4 +243,5 @@ def try_format(tried):
             tried.see("format %s" % words, found[:2] == (status, text), found)
     with kept("protocol p;\nmessage a up\n") as path:
         found = tried.tool("format", [path])
-        tried.see("format: no protocol", found[:2] == (2, "") and ":3: no protocol" in found[2], found)
+        tried.see("format: no protocol", found[:2] == (2, "") and ":3: code 1: The file ends here" in found[2],
+                  found)

@@ -1,8 +1,5 @@
 """What the tools at the desk share: the program `rvc`, called once or fed line by line, and the
 protocol file with its parts.
-
-RVC_PROGRAM in the environment names the program to call; without it that is the launcher `rvc` of
-this repository, which builds it if need be.
 """
 import os
 import re
@@ -12,8 +9,10 @@ import sys
 TOP = os.path.dirname(os.path.dirname(os.path.realpath(__file__)))
 sys.path.insert(0, os.path.join(TOP, "tools", "launcher"))
 sys.path.insert(0, os.path.join(TOP, "tools"))
+from explain import misfit_sentences  # noqa: E402
 from faults import first_fault  # noqa: E402
 from forms import word_fault  # noqa: E402
+from program import program, quiet  # noqa: E402
 from protocol import Misfit, read_protocol  # noqa: E402
 from protocol_file import Fault, read_text  # noqa: E402
 from traces import BLOCK, standing_of, start_of  # noqa: E402
@@ -22,17 +21,11 @@ from traces import BLOCK, standing_of, start_of  # noqa: E402
 MARKS = {"rv": "tau 99999 0", "run": "up 99999"}
 
 
-def program():
-    """The path of the program, and the environment in which it explains nothing."""
-    path = os.environ.get("RVC_PROGRAM") or os.path.join(TOP, "rvc")
-    return path, dict(os.environ, RVC_QUIET="1")
-
-
 def answer(words, given=""):
     """The status and the text of a call of the program with this standard input."""
-    path, environment = program()
+    path = program()
     try:
-        done = subprocess.run([path] + words, input=given.encode("latin-1"), env=environment,
+        done = subprocess.run([path] + words, input=given.encode("latin-1"), env=quiet(),
                               stdout=subprocess.PIPE, check=False)
     except OSError as fault:
         raise Fault("%s: %s" % (path, fault.strerror))
@@ -41,13 +34,19 @@ def answer(words, given=""):
     return done.returncode, done.stdout.decode("latin-1")
 
 
+def no_protocol(path, text, misfit):
+    """The Fault of a file that spells no protocol: the line of the first error, and why."""
+    return Fault("%s:%d: code 1: %s" % (path or "standard input", misfit.piece.line,
+                                        " ".join(misfit_sentences(misfit, text))))
+
+
 def protocol_at(path):
     """The protocol that a file spells, a Part of protocol.py; a Fault where it isn't well-formed."""
+    text = read_text(path)
     try:
-        file = read_protocol(read_text(path))
+        file = read_protocol(text)
     except Misfit as misfit:
-        raise Fault("%s:%d: not a protocol from here on; `rvc check` says more"
-                    % (path, misfit.piece.line))
+        raise no_protocol(path, text, misfit)
     fault = first_fault(file)
     if fault is not None:
         raise Fault("%s:%d: code %d: %s" % (path, fault.line, fault.code, fault.sentences[0]))
@@ -67,9 +66,9 @@ class Run:
                                         words[0] == "run")
                           for who in [None] + list(range(int(words[2])))}
         self.claim = None
-        path, environment = program()
+        path = program()
         try:
-            self.process = subprocess.Popen([path] + words, stdin=subprocess.PIPE, env=environment,
+            self.process = subprocess.Popen([path] + words, stdin=subprocess.PIPE, env=quiet(),
                                             stdout=subprocess.PIPE)
         except OSError as fault:
             raise Fault("%s: %s" % (path, fault.strerror))

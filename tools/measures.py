@@ -137,6 +137,12 @@ def histogram(waits):
     return bins
 
 
+def waits_of(runs):
+    """For each run by its name, the waits until taken and until answered: a title, the histogram."""
+    return [("steps until %s, %s" % (what, name), histogram(waits)) for name, run in runs
+            for what, waits in (("taken", run.taken), ("answered", run.answered))]
+
+
 def all_lines(file, remotes):
     """The lines of each step that may be enabled in some state."""
     ours, theirs = (max([len(state.guards) for state in process.states] + [1])

@@ -7,6 +7,8 @@ import subprocess
 import sys
 import time
 
+from program import calling
+
 EXPORT = os.path.join(os.path.dirname(os.path.dirname(os.path.realpath(__file__))), "export")
 SECONDS = 3600
 # What a checker found: how many states, how many rules or transitions, the fault, and the seconds
@@ -33,7 +35,7 @@ class Peers:
     def run(self, words, allowed=(0,)):
         """What a command writes."""
         done = subprocess.run(words, cwd=self.folder, stdout=subprocess.PIPE, stderr=subprocess.STDOUT,
-                              stdin=subprocess.DEVNULL, timeout=SECONDS)
+                              stdin=subprocess.DEVNULL, timeout=SECONDS, env=calling(self.program))
         text = done.stdout.decode("utf-8", "replace")
         if done.returncode not in allowed:
             raise RuntimeError("%s: status %d: %s" % (words[0], done.returncode, text[-300:]))
@@ -41,7 +43,7 @@ class Peers:
 
     def export(self, name, words):
         """Writes a model into the folder."""
-        text = self.run([sys.executable, EXPORT] + words + ["--program", self.program])
+        text = self.run([sys.executable, EXPORT] + words)
         with open(os.path.join(self.folder, name), "w") as file:
             file.write(text)
 
