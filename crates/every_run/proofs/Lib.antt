@@ -1,0 +1,3 @@
+pub mod ToldLeads
+pub mod GoesOn
+pub mod NeverStops

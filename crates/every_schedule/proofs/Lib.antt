@@ -1,0 +1,3 @@
+pub mod PlayedStates
+pub mod KeptClaims
+pub mod LinesCome
