@@ -73,6 +73,17 @@ impl Slots {
         }
     }
 
+    /// Whether a request that comes now would be held, which completes a guard of the home's state
+    /// or doesn't, at a home that waits for an answer or doesn't. Else it would be nacked.
+    pub fn admits(&self, completes: bool, waiting: bool) -> bool
+        requires { IsTrue waiting → length self.now.held < self.now.size }
+        ensures { result
+            ≡ admits (admission.free self.now.size (length self.now.held) waiting) completes }
+    {
+        let free = self.free(waiting);
+        free >= 2 || free == 1 && completes
+    }
+
     /// A request comes, which completes a guard of the home's state or doesn't, to a home that
     /// waits for an answer or doesn't. It is held last, or nacked, and then nothing changes.
     pub fn admit(&mut self, request: Held, completes: bool, waiting: bool) -> Admitted
@@ -86,8 +97,7 @@ impl Slots {
             ≡ false)
             × (self.new ≡ self.old) }
     {
-        let free = self.free(waiting);
-        if free >= 2 || free == 1 && completes {
+        if self.admits(completes, waiting) {
             self.hold(request);
             Admitted::Kept
         } else {
@@ -104,8 +114,8 @@ impl Slots {
         self.hold(request);
     }
 
-    // Holds the request last: there is room for it.
-    fn hold(&mut self, request: Held)
+    /// Holds the request last, in a slot that is free.
+    pub fn hold(&mut self, request: Held)
         requires { length self.old.held < self.old.size }
         ensures { self.new ≡ record self.old { held = self.old.held ++ request ∷ [] } }
     {
