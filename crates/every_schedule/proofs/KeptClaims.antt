@@ -1,12 +1,10 @@
 -- Where events keep each claim of a file, no claim is broken wherever a schedule of steps or of
 -- events leads.
-use Rattle.std.proofs.Common.{◌≡◌, ℕ, ◌≤◌, List, Option, Some, None, unwrap_or, refl}
+use Rattle.std.proofs.Common.{◌≡◌, ℕ, ◌≤◌, List, [], Option, Some, None, unwrap_or, refl}
 use Rattle.proto_model.specs.Numbered.{CheckedProtocol}
 use Rattle.proto_model.specs.Proper.{IsProper}
-use Rattle.proto_model.specs.Rendezvous.{rv_start}
 use Rattle.proto_model.specs.RendezvousNext.{rv_next}
 use Rattle.proto_model.specs.declared.mode.Mode.{Mode}
-use Rattle.proto_model.specs.declared.numbered.NumberedClaim.{NumberedClaim}
 use Rattle.proto_model.specs.declared.rendezvous.RvConfig.{RvConfig}
 use Rattle.proto_model.specs.declared.rendezvous.Event.{Event}
 use Rattle.proto_model.proofs.Steps.{RvStep-next}
@@ -29,10 +27,10 @@ use Rattle.every_schedule.proofs.PlayedStates.{EndsWell, played-well}
 -- ---- a schedule of steps
 
 -- The controllers of a proper protocol stand where events lead, and events keep the claims.
-record RunsWell (n : ℕ) (running : Running) : Type 0 where
-  proper : IsProper running.setting.protocol
-  comes : ComesTo running.setting n running.config
-  keeps :
+pub record RunsWell (n : ℕ) (running : Running) : Type 0 where
+  pub proper : IsProper running.setting.protocol
+  pub comes : ComesTo running.setting n running.config
+  pub keeps :
       (at : RvConfig) → IsReached running.setting.protocol n at
       → AllHold running.claims (remote_states at)
 
@@ -65,9 +63,9 @@ run-keeps checked mode n k proper some few two most keeps limits schedule =
 -- ---- a schedule of events
 
 -- The machine stands where events lead, and events keep the claims.
-record WatchedWell (n : ℕ) (watched : Watched) : Type 0 where
-  reached : IsReached watched.standing.protocol n watched.standing.config
-  keeps :
+pub record WatchedWell (n : ℕ) (watched : Watched) : Type 0 where
+  pub reached : IsReached watched.standing.protocol n watched.standing.config
+  pub keeps :
       (at : RvConfig) → IsReached watched.standing.protocol n at
       → AllHold watched.claims (remote_states at)
 

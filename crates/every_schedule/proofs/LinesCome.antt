@@ -5,10 +5,10 @@ use Rattle.rv_base.proofs.Lists.{AllByRecursion-at, AllByRecursion-set, AllByRec
 use Rattle.rv_base.proofs.Lists.{some_map, some_and_then}
 use Rattle.proto_model.specs.Proper.{IsProper}
 use Rattle.async_shape.specs.Setting.{Setting}
-use Rattle.async_shape.specs.Config.{Config, start}
+use Rattle.async_shape.specs.Config.{start}
 use Rattle.async_shape.specs.Next.{next}
 use Rattle.line_array.specs.ArrayConfig.{ArrayConfig, array_start}
-use Rattle.line_array.specs.ArrayNext.{LineMove, move_of, next_by, array_moved, next_array}
+use Rattle.line_array.specs.ArrayNext.{move_of, next_by, array_moved, next_array}
 use Rattle.line_array.specs.ArrayNext.{after_line_step, array_at_end}
 use Rattle.line_array.specs.declared.line_step.LineStep.{LineStep}
 use Rattle.line_array.proofs.Sharing.{move_of-is}

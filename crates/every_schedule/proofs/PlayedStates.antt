@@ -2,10 +2,10 @@
 -- its end. Where no claim is broken in a state of which it is true, no replay stops at a broken
 -- claim.
 use Rattle.std.proofs.Common.{◌≡◌, ◌≢◌, ℕ, ◌+◌, Bool, true, false, nat_le, nat_lt, List, [], ◌∷◌}
-use Rattle.std.proofs.Common.{length, Option, Some, None, refl, subst, sym}
+use Rattle.std.proofs.Common.{length, Option, None, subst, sym}
 use Rattle.schedule_replay.specs.Play.{Play}
-use Rattle.schedule_replay.specs.Played.{Stop, Halted, Played, line_then, unless_halted}
-use Rattle.schedule_replay.specs.Played.{item_then, played_lines, played_from, stopped}
+use Rattle.schedule_replay.specs.Played.{Halted, Played, line_then, unless_halted}
+use Rattle.schedule_replay.specs.Played.{item_then, played_lines, played_from}
 use Rattle.schedule_replay.specs.declared.limits.Limits.{Limits}
 use Rattle.schedule_replay.specs.declared.player.Meaning.{Meaning}
 use Rattle.schedule_replay.specs.declared.player.Meaning.TheVariants.{Blank, Says, Bad}

@@ -18,3 +18,5 @@ pub mod BootsAsRun
 pub mod ConcludedReplays
 pub mod AuditedTraces
 pub mod AuditedRuns
+pub mod StoppedNo
+pub mod KeptRuns

@@ -26,14 +26,14 @@ use Rattle.rvc_top.specs.declared.command.Command.TheVariants.{Run, Boot, Drive}
 use Rattle.rvc_top.specs.declared.command.Driving.{Driving}
 
 -- the protocol that a file holds is proper
-held-proper : (f : Text) (checked : CheckedProtocol) → HoldsProtocol f checked
+pub held-proper : (f : Text) (checked : CheckedProtocol) → HoldsProtocol f checked
     → IsProper checked.protocol
 held-proper f checked holds =
     subst (λ (c : CheckedProtocol). IsProper c.protocol) (sym holds.4)
     (well_formed-proper holds.0 holds.3)
 
 -- the protocol of an image is proper
-booted-proper : (f : Text) (booted : Booted) → HoldsImage f booted
+pub booted-proper : (f : Text) (booted : Booted) → HoldsImage f booted
     → IsProper booted.checked.protocol
 booted-proper f booted holds =
     subst (λ (c : CheckedProtocol). IsProper c.protocol) (sym holds.3)

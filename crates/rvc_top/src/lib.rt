@@ -18,7 +18,7 @@
 //! - `steady`: the call over sources and a sink that never fail.
 //! - `laws`: each run has a verdict, and one alone; `store_laws`: an image is of one protocol in
 //!   one mode, and booting it is running that; `audit_laws`: each trace is accepted, and what is
-//!   accepted is a run.
+//!   accepted is a run; `kept_laws`: what no event can break, no run can.
 //!
 //! The definitions that the contracts cite are in `specs/`: what each command does stands once, in
 //! `Commands`, and all else follows from that. The verdict is in `Verdict`, what a run leaves in
@@ -34,6 +34,7 @@ mod example;
 mod file;
 mod file_command;
 mod file_commands;
+mod kept_laws;
 mod laws;
 mod reply;
 mod schedule_command;
@@ -48,6 +49,7 @@ pub use array_replay::read_array_line;
 pub use audit_laws::{every_trace_is_accepted, what_is_accepted_is_a_run};
 pub use command::{Command, Driving, words_mean};
 pub use example::{Example, example_text};
+pub use kept_laws::what_events_keep_runs_keep;
 pub use laws::{every_run_is_decided, every_verdict_is_one};
 pub use status::Status;
 pub use steady::rvc_steady;

@@ -4,7 +4,6 @@ use Rattle.std.specs.List.{AllByRecursion}
 use Rattle.rv_base.proofs.Lists.{AllByRecursion-weaker}
 use Rattle.schedule_replay.specs.TextLines.{lines_of}
 use Rattle.schedule_replay.proofs.PlayedItems.{all_lines}
-use Rattle.async_shape.specs.Setting.{Setting}
 use Rattle.async_shape.specs.Config.{Config}
 use Rattle.abstraction_map.specs.Abstraction.{abstraction}
 use Rattle.line_array.specs.ArrayConfig.{array_start}

@@ -1,6 +1,5 @@
 -- The steps that are taken are a run, whatever the network does.
 use Rattle.std.proofs.Common.{sym, subst}
-use Rattle.proto_model.specs.declared.rendezvous.RvConfig.{RvConfig}
 use Rattle.schedule_replay.specs.TextLines.{lines_of}
 use Rattle.schedule_replay.proofs.PlayedItems.{all_lines}
 use Rattle.async_shape.specs.Config.{Config}
