@@ -1,14 +1,14 @@
 -- What is played of a schedule is what stands before the first stop.
 use Rattle.std.proofs.Common.{◌≡◌, ℕ, zero, suc, ◌+◌, ◌<◌, Bool, true, false, List, [], ◌∷◌, ◌++◌}
 use Rattle.std.proofs.Common.{length, nat_le, nat_lt, Option, Some, None, slice_get, refl, sym, ap}
-use Rattle.std.proofs.Common.{subst, arith, ◌∙◌}
+use Rattle.std.proofs.Common.{arith, ◌∙◌}
 use Rattle.std.proofs.lemmas.Bool.{ltb-true, ltb-false}
 use Rattle.std.proofs.lemmas.Option.{none-some, same_Some}
 use Rattle.schedule_replay.specs.Play.{Play}
 use Rattle.schedule_replay.specs.Played.{Stop, AtEnd, AtLine, TooMany, Halted, Played, stopped, behind}
 use Rattle.schedule_replay.specs.Played.{unless_halted, numbered_block, line_then, played_lines}
 use Rattle.schedule_replay.specs.Played.{played_from}
-use Rattle.schedule_replay.specs.PlayedItems.{said_first, blocks_of}
+use Rattle.schedule_replay.specs.PlayedItems.{blocks_of}
 use Rattle.schedule_replay.specs.declared.limits.Limits.{Limits}
 use Rattle.schedule_replay.specs.declared.player.Meaning.{Meaning}
 use Rattle.schedule_replay.specs.declared.player.Meaning.TheVariants.{Blank, Says, Bad}

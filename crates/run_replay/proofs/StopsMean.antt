@@ -2,10 +2,10 @@
 use Rattle.std.proofs.Common.{◌≡◌, ◌⊎◌, inl, inr, ℕ, zero, suc, ◌+◌, ◌<◌, ◌≤◌, Bool, true, false}
 use Rattle.std.proofs.Common.{List, [], ◌∷◌, length, nat_le, nat_lt, Option, Some, None, slice_get}
 use Rattle.std.proofs.Common.{refl, sym, ap, subst, arith, ◌∙◌}
-use Rattle.std.proofs.lemmas.Bool.{lt-ltb, ltb-true, ltb-false, le-leb, leb-true, leb-false}
+use Rattle.std.proofs.lemmas.Bool.{lt-ltb, ltb-true, ltb-false, leb-true, leb-false}
 use Rattle.std.proofs.lemmas.Bool.{or_cases, or_left, or_right}
 use Rattle.std.proofs.lemmas.Option.{none-some, same_Some, slice_get_within, slice_get-get_or}
-use Rattle.rendezvous_meaning.specs.Claims.{broken, remote_states, AllHold, IsFirstBroken}
+use Rattle.rendezvous_meaning.specs.Claims.{broken, remote_states}
 use Rattle.rendezvous_meaning.proofs.BrokenClaims.{broken-none, broken-first}
 use Rattle.schedule_replay.specs.Play.{Play}
 use Rattle.schedule_replay.specs.Played.{Stop, AtEnd, AtLine, TooMany, Halted, played_from}
@@ -17,7 +17,7 @@ use Rattle.async_shape.specs.Run.{config_at_end}
 use Rattle.async_shape.specs.declared.step.Step.{Step}
 use Rattle.run_replay.specs.RunTrace.{Running, running_after, run_play, run_halts}
 use Rattle.run_replay.specs.WhereStopped.{stop_by_claim, is_malformed, is_refused, stop_by_line}
-use Rattle.run_replay.specs.WhereStopped.{stop_behind, IsFirstStop, state_behind, steps_in}
+use Rattle.run_replay.specs.WhereStopped.{stop_behind, state_behind, steps_in}
 use Rattle.run_replay.specs.WhereStopped.{stands_behind, IsRefused, AreTaken, HoldBehind, MeansStop}
 use Rattle.run_replay.proofs.FirstStop.{first_stop}
 
