@@ -5,3 +5,4 @@ pub mod Shown
 pub mod MessagesBehind
 pub mod AbstractLines
 pub mod PlayedSteps
+pub mod KeptClaims

@@ -1,8 +1,9 @@
 -- The block of a step, as it is put together, and where the controllers start.
 use Rattle.std.proofs.Common.{◌≡◌, ℕ, List, [], ◌++◌, length, replicate, Option, Some, None, codes}
-use Rattle.std.proofs.Common.{refl, sym, ap, ◌∙◌, append_assoc, append-nil}
+use Rattle.std.proofs.Common.{Result, refl, sym, ap, subst, ◌∙◌, append_assoc, append-nil}
 use Rattle.std.proofs.lemmas.List.{length-replicate}
 use Rattle.proto_model.specs.Tokens.{Text}
+use Rattle.proto_model.specs.Continued.{Continues}
 use Rattle.proto_model.specs.Numbered.{NumberedProtocol, CheckedProtocol}
 use Rattle.proto_model.specs.declared.mode.Mode.{Mode}
 use Rattle.proto_model.specs.declared.numbered.NumberedClaim.{NumberedClaim}
@@ -14,12 +15,16 @@ use Rattle.async_shape.specs.Config.{Config, start}
 use Rattle.async_shape.specs.Next.{next, displaced_sender}
 use Rattle.async_shape.specs.Setting.{Setting}
 use Rattle.async_shape.specs.declared.step.Step.{Step}
+use Rattle.async_machine.specs.Effects.{IsStep}
 use Rattle.async_machine.specs.Standing.{Standing, setting_of, config}
+use Rattle.async_machine.specs.declared.stepped.Stepped.{Stepped}
 use Rattle.async_machine.specs.StepText.{step_text}
 use Rattle.abstraction_map.specs.Abstraction.{abstraction}
 use Rattle.abstraction_map.specs.Told as spec
 use Rattle.abstraction_map.specs.declared.told.Told.{Told}
 use Rattle.run_replay.specs.ToldWords.{told_words}
+use Rattle.schedule_replay.proofs.Chained.{grown}
+use Rattle.run_replay.specs.PlayedStep.{Leads, unclaimed}
 use Rattle.run_replay.specs.RunTrace.{Running, step_block, lines_after, lines_if, run_start}
 
 -- these claims, and the controllers in this configuration
@@ -80,6 +85,43 @@ module _ (setting : Setting) (c : Config) (s : Step) where
     block-refused all leads written =
         written ∙ sym (append-nil words)
         ∙ block-of [] (sym (ap (lines_if setting.protocol s (displaced_sender setting c s)) leads))
+
+  -- The words of a step and the lines that follow it, if it moved, are its block.
+  block-joined : (told : Told) (displaced : Option ℕ) → told ≡ spec.told setting c s
+      → displaced ≡ displaced_sender setting c s
+      → words_of told ++ lines_if setting.protocol s displaced (next setting c s)
+      ≡ step_block (running_so [] setting c) s
+  block-joined told displaced is_told is_displaced =
+      let after = next setting c s in
+      let stands = abstraction setting.protocol c in
+      let all : Told → Option ℕ → Text =
+      λ t o. step_text s ++ (codes ": " ++ (told_words setting.protocol stands t
+      ++ (codes "\n" ++ lines_if setting.protocol s o after))) in
+      words-joined [] (step_text s) (codes ": ") (told_words setting.protocol stands told)
+      (codes "\n") (lines_if setting.protocol s displaced after)
+      ∙ ap (λ (t : Told). all t displaced) is_told
+      ∙ ap (all (spec.told setting c s)) is_displaced
+
+-- The words of a step of a machine were appended, and then its lines, if it moved: its block was.
+pub block-played : {L E : Type 0} (lists : L → List LinkPair) (old new : Standing L) (s : Step)
+    (told : Told) (displaced : Option ℕ) (stepped : Stepped) (r t u : Result (Unit {0}) E)
+    (a b d : Text) → told ≡ spec.told (setting_of old.table old.slots) (config lists old) s
+    → displaced ≡ displaced_sender (setting_of old.table old.slots) (config lists old) s
+    → Leads lists s stepped old new → new.table ≡ old.table
+    → Continues (words_of (setting_of old.table old.slots) (config lists old) s told) r a t b
+    → ((before : Config) (after : Option Config) → IsStep stepped before (config lists new) after
+    → Continues (lines_if (protocol_of new.table) s displaced after) t b u d)
+    → Continues (step_block (unclaimed lists old) s) r a u d
+block-played lists old new s told displaced stepped r t u a b d is_told is_displaced leads table
+    words lines =
+    let setting = setting_of old.table old.slots in
+    let c = config lists old in
+    let after = next setting c s in
+    grown (words_of setting c s told) (lines_if setting.protocol s displaced after)
+    (step_block (unclaimed lists old) s) r t u a b d
+    (block-joined setting c s told displaced is_told is_displaced) words
+    (subst (λ (of : Tabled). Continues (lines_if (protocol_of of) s displaced after) t b u d) table
+    (lines c after leads))
 
 -- ---- the start
 

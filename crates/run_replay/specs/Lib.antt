@@ -5,3 +5,4 @@ pub mod ToldWords
 pub mod MessageBehind
 pub mod RunTrace
 pub mod Blocks
+pub mod PlayedStep
