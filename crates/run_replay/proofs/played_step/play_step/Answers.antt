@@ -12,7 +12,7 @@ pub returns-clause-tells : goal.returns-clause-tells
 returns-clause-tells g c =
     let taker = g.T.StepTaker in
     let old = taker.machine c.args.taker.now c.args.at in
-    let new = taker.machine c.take-stepped.new.taker c.args.at in
+    let new = taker.machine c.take-stepped.new.self c.args.at in
     block-played g.L.Links.lists old new c.args.step c.event_of-told.result
     c.would_displace-displaced.result c.take-stepped.result c.args.so_far
     c.put_told_line-so_far.result c.put_lines_if_moved-so_far.result c.args.out.now.items
@@ -28,7 +28,7 @@ returns-clause-still g c =
     let taker = g.T.StepTaker in
     let lists = g.L.Links.lists in
     let old = taker.machine c.args.taker.now c.args.at in
-    let new = taker.machine c.take-stepped.new.taker c.args.at in
+    let new = taker.machine c.take-stepped.new.self c.args.at in
     subst (λ (t : Told). UnlessEvent t (stands_for lists new ≡ stands_for lists old))
     (sym (rw c.machine-machine.ensures at c.event_of-told.ensures.value))
     (stands-kept lists old new c.args.step c.take-stepped.result
