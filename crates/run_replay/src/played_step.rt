@@ -1,8 +1,9 @@
 //! One step, as every player of steps plays it.
 
-ghost use Rattle.std.specs.Prelude.{◌≡◌, ◌×◌};
+ghost use Rattle.std.specs.Prelude.{◌≡◌};
 ghost use Rattle.proto_model.specs.Continued.{Continues};
 ghost use Rattle.async_machine.specs.Standing.{Standing, setting, config};
+ghost use Rattle.async_shape.specs.declared.step.Step.{Step as TheStep};
 ghost use Rattle.abstraction_map.specs.Told as of_step;
 ghost use Rattle.run_replay.specs.PlayedStep.{Leads, UnlessEvent, IsTaken, stands_for, unclaimed};
 ghost use Rattle.run_replay.specs.RunTrace.{step_block};
@@ -27,10 +28,10 @@ pub trait StepTaker<L: Links> {
     ghost machine: { Self → Self.At → Standing L };
 
     /// This step can be taken there.
-    ghost is_meant: { Self → Self.At → Step → Type 0 };
+    ghost is_meant: { Self → Self.At → TheStep → Type 0 };
 
     /// What takes the step, before and after it.
-    ghost after: { Self → Self.At → Step → Self → Type 0 };
+    ghost after: { Self → Self.At → TheStep → Self → Type 0 };
 
     /// The machine that is named so.
     fn machine<'s>(&'s self, at: Self::At) -> &'s Machine<'s, L>

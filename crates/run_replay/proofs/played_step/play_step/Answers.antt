@@ -8,6 +8,9 @@ use Rattle.run_replay.proofs.KeptClaims.{stands-kept}
 use Rattle.run_replay.proofs.PlayedSteps.{block-played}
 use Rattle.run_replay.proofs.played_step.play_step.Goals as goal
 
+pub returns-clause-told : goal.returns-clause-told
+returns-clause-told g c = rw c.machine-machine.ensures at c.event_of-told.ensures.value
+
 pub returns-clause-tells : goal.returns-clause-tells
 returns-clause-tells g c =
     let taker = g.T.StepTaker in
