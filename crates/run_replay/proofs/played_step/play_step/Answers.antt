@@ -1,7 +1,6 @@
 -- The words of the step and the lines after it make its block; what is told of it says what it
 -- leaves of what the machine stands for.
 use Rattle.std.proofs.Common.{◌≡◌, sym, subst}
-use Rattle.async_machine.specs.Standing.{Standing, setting, config}
 use Rattle.abstraction_map.specs.declared.told.Told.{Told}
 use Rattle.run_replay.specs.PlayedStep.{UnlessEvent, stands_for}
 use Rattle.run_replay.proofs.KeptClaims.{stands-kept}
