@@ -1,4 +1,5 @@
 pub mod ArrayWords
 pub mod MeantLines
 pub mod ToldInLine
+pub mod TakenInLine
 pub mod LinesOfRuns

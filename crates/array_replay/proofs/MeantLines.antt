@@ -96,19 +96,18 @@ module _ (setting : Setting) (c : ArrayConfig) (s : LineStep) (a : ℕ) (own : S
       (option_map (λ (before : Config). record { number = a; before = before; own = own }) line))
       there
 
-  -- Where the array moves, the line goes where its controllers go by their own step.
-  pub line-moved : (d : ArrayConfig) (after : Config) → next_array setting c s ≡ Some d
-      → slice_get d.lines a ≡ Some after → next setting before own ≡ Some after
-  line-moved d after moves stands =
+  -- Where the array moves, the line is there then, and stands where its controllers go by their own
+  -- step.
+  pub line-moved : (d : ArrayConfig) → next_array setting c s ≡ Some d
+      → (after : Config) × (next setting before own ≡ Some after)
+      × (slice_get d.lines a ≡ Some after)
+  line-moved d moves =
       let at =
       some_map (array_moved setting c its_move) (next setting before own) d
       (sym moves-so ∙ moves) in
       let changed : slice_get (slice_set c.lines a at.0) a ≡ Some at.0 =
       slice_get-set_same c.lines a at.0 (slice_get_within c.lines a before there) in
-      let same : at.0 ≡ after =
-      same_Some at.0 after
-      (sym changed ∙ ap (λ (d : ArrayConfig). slice_get d.lines a) at.2 ∙ stands) in
-      at.1 ∙ ap (λ (x : Config). Some x) same
+      (at.0, at.1, sym (ap (λ (d : ArrayConfig). slice_get d.lines a) at.2) ∙ changed)
 
   -- Where the array refuses, so does the line.
   pub line-refused : next_array setting c s ≡ None → next setting before own ≡ None

@@ -10,27 +10,66 @@ ghost use Rattle.array_replay.specs.ArrayTrace as texts;
 ghost use Rattle.array_replay.specs.ArrayTrace.{array_play, array_begin};
 ghost use Rattle.array_replay.specs.Standing.{running_of};
 
-use crate::array_trace::{end_texts, refused_line, told_in_line};
+use crate::array_trace::{end_texts, put_in_line, refused_line};
 use crate::steps::read_array_line;
-use abstraction_map::event_of;
-use async_machine::{Step, Stepped};
+use async_machine::{Machine, Step, Stepped};
 use controller_table::Table;
 use home_refine::compile;
 use line_array::laws::shared_lists_are_in_step;
 use line_array::{Array, LineStep};
+use ordered_links::RingLinks;
 use proto_model::Mode;
-use run_replay::moved_lines;
+use run_replay::{StepTaker, play_step};
 use rv_base::{NoMemory, Sink, Source};
 use schedule_replay::{Meaning, Player, Replayed, SCHEDULE_LIMITS, play_schedule};
 use star_check::Checked;
 use std::alloc::Global;
 use std::marker::Model;
 
+// Several cache lines over shared links, as what takes the steps of their machines.
+#[derive(Drop)]
+struct Lines<'a> {
+    array: Array<'a>,
+}
+
+// A step of the array that is meant for this cache line.
+#[derive(Clone, Copy)]
+struct InLine {
+    item: LineStep,
+    line: u8,
+}
+
+impl<'a> StepTaker<RingLinks> for Lines<'a> {
+    ghost use Rattle.std.specs.Prelude.{◌≡◌, ◌<◌, length, Some};
+    ghost use Rattle.line_array.specs.ArrayNext.{meant};
+    ghost use Rattle.array_replay.specs.ArrayTrace.{array_after};
+    ghost use Rattle.array_replay.specs.Standing.{running_of, machine_in};
+
+    type At = InLine;
+
+    ghost is_there = { λ lines at. at.line < length lines.array.config.lines };
+
+    ghost machine = { λ lines at. machine_in lines.array at.line };
+
+    ghost is_meant = { λ lines at step. meant lines.array.config at.item ≡ Some (at.line, step) };
+
+    ghost after = { λ old at step new.
+        running_of new.array ≡ array_after (running_of old.array) at.item };
+
+    fn machine<'s>(&'s self, at: InLine) -> &'s Machine<'s, RingLinks> {
+        self.array.machine(at.line)
+    }
+
+    fn take(&mut self, at: InLine, _step: Step) -> Stepped {
+        self.array.step(at.item)
+    }
+}
+
 /// Several cache lines over shared links, on which a schedule of steps is played. Contracts see
 /// what the controllers of each were given, and how all of them stand.
 #[derive(Drop)]
 pub struct ArrayPlayer<'a> {
-    array: Array<'a>,
+    lines: Lines<'a>,
 }
 
 impl<'a> Model for ArrayPlayer<'a> {
@@ -39,7 +78,7 @@ impl<'a> Model for ArrayPlayer<'a> {
 
     ghost Value = { ArrayRunning };
 
-    ghost view = { λ player. running_of player.array };
+    ghost view = { λ player. running_of player.lines.array };
 }
 
 impl<'a> ArrayPlayer<'a> {
@@ -61,8 +100,9 @@ impl<'a> ArrayPlayer<'a> {
         ensures { IfOk result (λ player. player
             ≡ array_begin checked.now.protocol table.now.mode n k lines) }
     {
+        let array = Array::new(alloc, table, n, k, lines)?;
         Ok(ArrayPlayer {
-            array: Array::new(alloc, table, n, k, lines)?,
+            lines: Lines { array },
         })
     }
 }
@@ -71,28 +111,21 @@ impl<'a> ArrayPlayer<'a> {
 // what tells of it.
 fn play_meant(
     alloc: Global,
-    array: &mut Array,
-    item: LineStep,
-    line: u8,
+    lines: &mut Lines,
+    at: InLine,
     step: Step,
     out: &mut Vec<u8>,
 ) -> Result<(), NoMemory>
-    requires meant { meant array.old.config item ≡ Some (line, step) }
-    requires there { line < length array.old.config.lines }
-    ensures after { running_of array.new ≡ texts.array_after (running_of array.old) item }
+    requires meant { meant lines.old.array.config at.item ≡ Some (at.line, step) }
+    requires there { at.line < length lines.old.array.config.lines }
+    ensures after { running_of lines.new.array
+        ≡ texts.array_after (running_of lines.old.array) at.item }
     ensures tells { OnOk result (out.new.items
-        ≡ out.old.items ++ texts.array_block (running_of array.old) item) }
+        ≡ out.old.items ++ texts.array_block (running_of lines.old.array) at.item) }
 {
-    let machine = array.machine(line);
-    let told = event_of(machine, step);
-    let displaced = machine.would_displace(step);
-    let words = told_in_line(alloc, machine, line, step, told, out);
-    let stepped = array.step(item);
-    words?;
-    match stepped {
-        Stepped::Moved => moved_lines(alloc, array.machine(line), step, displaced, out),
-        Stepped::Refused => Ok(()),
-    }
+    let so_far = put_in_line(at.line, out);
+    let (_, written) = play_step(alloc, lines, at, step, out, so_far);
+    written
 }
 
 impl<'a> Player for ArrayPlayer<'a> {
@@ -107,10 +140,13 @@ impl<'a> Player for ArrayPlayer<'a> {
     }
 
     fn play(&mut self, alloc: Global, item: LineStep, out: &mut Vec<u8>) -> Result<(), NoMemory> {
-        self.array.shares();
+        let array = &self.lines.array;
+        array.shares();
         shared_lists_are_in_step();
-        match self.array.meant(item) {
-            Some((line, step)) => play_meant(alloc, &mut self.array, item, line, step, out),
+        match array.meant(item) {
+            Some((line, step)) => {
+                play_meant(alloc, &mut self.lines, InLine { item, line }, step, out)
+            }
             None => refused_line(alloc, item, out),
         }
     }
@@ -120,7 +156,7 @@ impl<'a> Player for ArrayPlayer<'a> {
     }
 
     fn finish(&self, alloc: Global, out: &mut Vec<u8>) -> Result<(), NoMemory> {
-        end_texts(alloc, &self.array, out)
+        end_texts(alloc, &self.lines.array, out)
     }
 }
 

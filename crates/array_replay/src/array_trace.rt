@@ -1,27 +1,23 @@
 //! The texts of which a trace of several cache lines is made.
 #![tactic(auto, using(proto_model::proofs::Continuing::whole))]
 
-ghost use Rattle.std.specs.Prelude.{◌≡◌, ◌++◌, codes};
+ghost use Rattle.std.specs.Prelude.{◌≡◌, ◌++◌, Ok, codes};
 ghost use Rattle.rv_base.specs.Appended.{Appends};
 ghost use Rattle.proto_model.specs.Continued.{Continues};
 ghost use Rattle.proto_model.specs.Texts.{argument};
 ghost use Rattle.controller_table.specs.Sound.{protocol_of};
-ghost use Rattle.async_machine.specs.Standing.{setting, config};
+ghost use Rattle.async_machine.specs.Standing.{config};
 ghost use Rattle.async_machine.specs.StepText as step_texts;
-ghost use Rattle.abstraction_map.specs.Abstraction.{abstraction};
-ghost use Rattle.abstraction_map.specs.Told as spec;
 ghost use Rattle.run_replay.specs.RunTrace.{run_ending};
-ghost use Rattle.run_replay.specs.ToldWords.{told_words};
 ghost use Rattle.array_replay.specs.ArrayLines.{array_text};
 ghost use Rattle.array_replay.specs.ArrayTrace as texts;
 ghost use Rattle.array_replay.specs.Standing.{running_of};
 
-use abstraction_map::Told;
 use async_machine::{Machine, Step, step_text};
 use line_array::{Array, LineStep};
 use ordered_links::Links;
 use proto_model::{Appending, append, append_argument, append_number};
-use run_replay::{end_lines, told_line};
+use run_replay::end_lines;
 use rv_base::NoMemory;
 use std::alloc::Global;
 
@@ -80,50 +76,14 @@ fn put_head(line: u8, out: &mut Vec<u8>, so_far: Appending) -> Appending
     append_number(out, so_far, u64::from(line))
 }
 
-// Appends the first line of the block of a step of one pair of controllers, unless memory ran out
-// before.
-#[tactic(auto, using(schedule_replay::proofs::Chained::begun))]
-fn put_told_line<L: Links>(
-    alloc: Global,
-    machine: &Machine<L>,
-    step: Step,
-    told: Told,
-    out: &mut Vec<u8>,
-    so_far: Appending,
-) -> Appending
-    requires { told ≡ spec.told (setting machine.now) (config L.lists machine.now) step }
-    ensures { Continues (step_texts.step_text step
-        ++ (codes ": " ++ (told_words (protocol_of machine.now.table)
-        (abstraction (protocol_of machine.now.table) (config L.lists machine.now)) told
-        ++ codes "\n"))) so_far out.old.items result out.new.items }
-{
-    match so_far {
-        Ok(()) => told_line(alloc, machine, step, told, out),
-        Err(failure) => Err(failure),
-    }
-}
-
-/// Appends the first line of the block of a step that is meant for this cache line, which has this
-/// machine, behind the block's number: `line`, the number of the cache line, one space, the step of
-/// the machine, `: ` and what is told of it in the configuration before it, with LF. After
-/// `NoMemory` the vector is as before followed by a front of the text.
-pub(crate) fn told_in_line<L: Links>(
-    alloc: Global,
-    machine: &Machine<L>,
-    line: u8,
-    step: Step,
-    told: Told,
-    out: &mut Vec<u8>,
-) -> Result<(), NoMemory>
-    requires { told ≡ spec.told (setting machine.now) (config L.lists machine.now) step }
-    ensures { Appends (texts.line_head line ++ (codes " " ++ (step_texts.step_text step
-        ++ (codes ": " ++ (told_words (protocol_of machine.now.table)
-        (abstraction (protocol_of machine.now.table) (config L.lists machine.now)) told
-        ++ codes "\n"))))) result out.old.items out.new.items }
+/// Appends what stands before the block of this cache line's controllers, behind the block's
+/// number: `line`, the number of the cache line, and one space.
+pub(crate) fn put_in_line(line: u8, out: &mut Vec<u8>) -> Appending
+    ensures { Continues (texts.line_head line ++ codes " ") (Ok tt) out.old.items result
+        out.new.items }
 {
     let so_far = put_head(line, out, Ok(()));
-    let so_far = append(out, so_far, b" ");
-    put_told_line(alloc, machine, step, told, out, so_far)
+    append(out, so_far, b" ")
 }
 
 // Appends the last text of one pair of controllers, unless memory ran out before.

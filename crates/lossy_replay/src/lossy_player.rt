@@ -13,13 +13,12 @@ ghost use Rattle.lossy_replay.specs.Standing.{running_of};
 use crate::items::{LossyItem, read_line};
 use crate::net_lines::net_block;
 use crate::waiting::waits;
-use abstraction_map::event_of;
-use async_machine::{Machine, Step, Stepped, step_text};
+use async_machine::{Machine, Step, step_text};
 use controller_table::Table;
 use faulty_link::{LossyLinks, NetStep};
 use home_refine::compile;
 use proto_model::Mode;
-use run_replay::{end_lines, moved_lines, told_line};
+use run_replay::{end_lines, play_step};
 use rv_base::{NoMemory, Sink, Source};
 use schedule_replay::{Meaning, Player, Replayed, SCHEDULE_LIMITS, play_schedule};
 use star_check::Checked;
@@ -78,15 +77,8 @@ fn take_step(
     ensures tells { OnOk result (out.new.items
         ≡ out.old.items ++ step_block (as_run (running_of machine.old)) step) }
 {
-    let told = event_of(machine, step);
-    let displaced = machine.would_displace(step);
-    let words = told_line(alloc, machine, step, told, out);
-    let stepped = machine.step(step);
-    words?;
-    match stepped {
-        Stepped::Moved => moved_lines(alloc, machine, step, displaced, out),
-        Stepped::Refused => Ok(()),
-    }
+    let (_, written) = play_step(alloc, machine, (), step, out, Ok(()));
+    written
 }
 
 // Makes a move of the network, and appends its block.

@@ -7,3 +7,4 @@ pub mod Shown
 pub mod MessagesBehind
 pub mod AbstractLines
 pub mod PlayedSteps
+pub mod KeptClaims

@@ -1,26 +1,35 @@
 -- The block of a step, as it is put together, and where the controllers start.
 use Rattle.std.proofs.Common.{◌≡◌, ℕ, List, [], ◌++◌, length, replicate, Option, Some, None, codes}
-use Rattle.std.proofs.Common.{refl, sym, ap, ◌∙◌, append_assoc, append-nil}
+use Rattle.std.proofs.Common.{Result, unwrap_or, refl, sym, ap, subst, ◌∙◌, append_assoc, append-nil}
 use Rattle.std.proofs.lemmas.List.{length-replicate}
 use Rattle.proto_model.specs.Tokens.{Text}
+use Rattle.proto_model.specs.Continued.{Continues}
 use Rattle.proto_model.specs.Numbered.{NumberedProtocol, CheckedProtocol}
 use Rattle.proto_model.specs.declared.mode.Mode.{Mode}
 use Rattle.proto_model.specs.declared.numbered.NumberedClaim.{NumberedClaim}
 use Rattle.proto_model.specs.declared.numbered.Body.{Body}
 use Rattle.controller_table.specs.Sound.{Tabled, table_in, protocol_of}
 use Rattle.controller_table.proofs.Told.{home-bare, remote-bare}
+use Rattle.ordered_links.specs.Link.{Link}
 use Rattle.ordered_links.specs.Lists.{LinkPair, no_packets}
+use Rattle.ordered_links.specs.declared.packet.Packet.{Packet}
 use Rattle.async_shape.specs.Config.{Config, start}
 use Rattle.async_shape.specs.Next.{next, displaced_sender}
 use Rattle.async_shape.specs.Setting.{Setting}
 use Rattle.async_shape.specs.declared.step.Step.{Step}
+use Rattle.async_machine.specs.Effects.{IsStep}
 use Rattle.async_machine.specs.Standing.{Standing, setting_of, config}
+use Rattle.async_machine.specs.declared.stepped.Stepped.{Stepped}
+use Rattle.async_machine.specs.declared.stepped.Stepped.TheVariants.{Moved, Refused}
 use Rattle.async_machine.specs.StepText.{step_text}
 use Rattle.abstraction_map.specs.Abstraction.{abstraction}
 use Rattle.abstraction_map.specs.Told as spec
 use Rattle.abstraction_map.specs.declared.told.Told.{Told}
 use Rattle.run_replay.specs.ToldWords.{told_words}
-use Rattle.run_replay.specs.RunTrace.{Running, step_block, lines_after, lines_if, run_start}
+use Rattle.schedule_replay.proofs.Chained.{grown}
+use Rattle.run_replay.specs.PlayedStep.{Leads, IsTaken, unclaimed}
+use Rattle.run_replay.specs.RunTrace.{Running, running_after, step_block, lines_after, lines_if}
+use Rattle.run_replay.specs.RunTrace.{run_start}
 
 -- these claims, and the controllers in this configuration
 abbrev pub running_so : List NumberedClaim → Setting → Config → Running
@@ -81,6 +90,51 @@ module _ (setting : Setting) (c : Config) (s : Step) where
         written ∙ sym (append-nil words)
         ∙ block-of [] (sym (ap (lines_if setting.protocol s (displaced_sender setting c s)) leads))
 
+  -- The words of a step and the lines that follow it, if it moved, are its block.
+  block-joined : (told : Told) (displaced : Option ℕ) → told ≡ spec.told setting c s
+      → displaced ≡ displaced_sender setting c s
+      → words_of told ++ lines_if setting.protocol s displaced (next setting c s)
+      ≡ step_block (running_so [] setting c) s
+  block-joined told displaced is_told is_displaced =
+      let after = next setting c s in
+      let stands = abstraction setting.protocol c in
+      let all : Told → Option ℕ → Text =
+      λ t o. step_text s ++ (codes ": " ++ (told_words setting.protocol stands t
+      ++ (codes "\n" ++ lines_if setting.protocol s o after))) in
+      words-joined [] (step_text s) (codes ": ") (told_words setting.protocol stands told)
+      (codes "\n") (lines_if setting.protocol s displaced after)
+      ∙ ap (λ (t : Told). all t displaced) is_told
+      ∙ ap (all (spec.told setting c s)) is_displaced
+
+-- The words of a step of a machine were appended, and then its lines, if it moved: its block was.
+pub block-played : {L E : Type 0} (lists : L → List LinkPair) (old new : Standing L) (s : Step)
+    (told : Told) (displaced : Option ℕ) (stepped : Stepped) (r t u : Result (Unit {0}) E)
+    (a b d : Text) → told ≡ spec.told (setting_of old.table old.slots) (config lists old) s
+    → displaced ≡ displaced_sender (setting_of old.table old.slots) (config lists old) s
+    → Leads lists s stepped old new → new.table ≡ old.table
+    → Continues (words_of (setting_of old.table old.slots) (config lists old) s told) r a t b
+    → ((before : Config) (after : Option Config) → IsStep stepped before (config lists new) after
+    → Continues (lines_if (protocol_of new.table) s displaced after) t b u d)
+    → Continues (step_block (unclaimed lists old) s) r a u d
+block-played lists old new s told displaced stepped r t u a b d is_told is_displaced leads table
+    words lines =
+    let setting = setting_of old.table old.slots in
+    let c = config lists old in
+    let after = next setting c s in
+    grown (words_of setting c s told) (lines_if setting.protocol s displaced after)
+    (step_block (unclaimed lists old) s) r t u a b d
+    (block-joined setting c s told displaced is_told is_displaced) words
+    (subst (λ (of : Tabled). Continues (lines_if (protocol_of of) s displaced after) t b u d) table
+    (lines c after leads))
+
+-- ---- where a step leads
+
+after-leads : (stepped : Stepped) (c d : Config) (after : Option Config) → IsStep stepped c d after
+    → d ≡ unwrap_or after c
+after-leads Moved c d after leads = sym (ap (λ (o : Option Config). unwrap_or o c) leads)
+after-leads Refused c d after leads =
+    leads.1 ∙ sym (ap (λ (o : Option Config). unwrap_or o c) leads.0)
+
 -- ---- the start
 
 with-bodies : (protocol : NumberedProtocol) (home remote : Body) → home ≡ protocol.home
@@ -108,6 +162,22 @@ same-running : (claims claims_at : List NumberedClaim) (setting setting_at : Set
     → running_so claims setting c ≡ running_so claims_at setting_at c_at
 same-running claims claims_at setting setting_at c c_at is_claims is_setting is_config =
     rw (is_claims, is_setting, is_config) refl
+
+-- A machine that took a step, or refused it, stands where the step leads.
+pub taken-leads : {L : Type 0} (lists : L → List LinkPair) (put_effect : L → Link → Packet → L → Type 0)
+    (take_effect : L → Link → Option Packet → L → Type 0) (claims : List NumberedClaim)
+    (old : Standing L) (s : Step) (new : Standing L)
+    → IsTaken lists put_effect take_effect old s new
+    → running_so claims (setting_of new.table new.slots) (config lists new)
+    ≡ running_after
+    (running_so claims (setting_of old.table old.slots) (config lists old)) s
+taken-leads lists put_effect take_effect claims old s new took =
+    let setting = setting_of old.table old.slots in
+    let c = config lists old in
+    same-running claims claims (setting_of new.table new.slots) setting (config lists new)
+    (unwrap_or (next setting c s) c) refl
+    (ap (λ (t : Tabled). setting_of t new.slots) took.table ∙ ap (setting_of old.table) took.slots)
+    (after-leads took.stepped c (config lists new) (next setting c s) took.leads)
 
 -- a machine over such links and this table, at the start, and the claims
 pub starts-so : {L : Type 0} (lists : L → List LinkPair) (checked : CheckedProtocol)

@@ -6,3 +6,4 @@ pub mod MessageBehind
 pub mod RunTrace
 pub mod Blocks
 pub mod WhereStopped
+pub mod PlayedStep

@@ -6,15 +6,15 @@ ghost use Rattle.rendezvous_meaning.specs.Claims as claims_of;
 ghost use Rattle.schedule_replay.specs.Replayed.{StopsSo, WritesSo, ReplayCounts, ReplayWants};
 ghost use Rattle.schedule_replay.specs.ScheduleLimits.{schedule_limits, most_taken};
 ghost use Rattle.schedule_replay.specs.Turns.{EndsAtStart};
-ghost use Rattle.controller_table.specs.Sound.{protocol_of, table_in};
-ghost use Rattle.async_machine.specs.Standing.{config};
-ghost use Rattle.abstraction_map.specs.Abstraction.{abstraction};
+ghost use Rattle.controller_table.specs.Sound.{table_in};
+ghost use Rattle.run_replay.specs.PlayedStep.{UnlessEvent, stands_for};
 ghost use Rattle.run_replay.specs.RunTrace.{run_play, run_start};
 
-use crate::run_trace::{end_lines, moved_lines, told_line};
+use crate::played_step::play_step;
+use crate::run_trace::end_lines;
 use crate::steps::read_line;
-use abstraction_map::{abstract_states, event_of};
-use async_machine::{Machine, Step, Stepped};
+use abstraction_map::{Told, abstract_states};
+use async_machine::{Machine, Step};
 use controller_table::Table;
 use home_refine::compile;
 use ordered_links::{Links, RingLinks};
@@ -27,16 +27,20 @@ use std::alloc::Global;
 use std::marker::Model;
 
 /// A machine of the two controllers, and the claims that are looked at wherever it stands: in the
-/// rendezvous configuration for which its own stands. Contracts see both.
+/// rendezvous configuration for which its own stands. Contracts see both. Which claim is broken
+/// where it stands is known from the last event, since no other step changes what it stands for.
 #[derive(Drop)]
 pub struct RunPlayer<'a, L: Links> {
     machine: Machine<'a, L>,
     claims: &'a [NumberedClaim],
+    halts_at: Option<u32>,
 }
 
 impl<'a, L: Links> Model for RunPlayer<'a, L> {
-    ghost use Rattle.std.specs.Prelude.{◌≤◌, length};
+    ghost use Rattle.std.specs.Prelude.{◌≡◌, ◌≤◌, length};
+    ghost use Rattle.rendezvous_meaning.specs.Claims as claims_of;
     ghost use Rattle.async_machine.specs.Standing.{setting, config};
+    ghost use Rattle.run_replay.specs.PlayedStep.{stands_for};
     ghost use Rattle.run_replay.specs.RunTrace.{Running};
 
     ghost Value = { Running };
@@ -47,7 +51,9 @@ impl<'a, L: Links> Model for RunPlayer<'a, L> {
       config = config L.lists player.machine;
     } };
 
-    ghost invariant = { λ player. length player.claims.now ≤ 16 };
+    ghost invariant = { λ player. (length player.claims.now ≤ 16)
+        × (player.halts_at ≡ claims_of.broken player.claims.now
+        (claims_of.remote_states (stands_for L.lists player.machine))) };
 }
 
 impl<'a> RunPlayer<'a, RingLinks> {
@@ -68,9 +74,12 @@ impl<'a> RunPlayer<'a, RingLinks> {
     {
         let links = RingLinks::new(alloc, n)?;
         let machine = Machine::new(alloc, table, links, k)?;
+        let claims = checked.claims();
+        let halts_at = broken_at(claims, &machine);
         Ok(RunPlayer {
             machine,
-            claims: checked.claims(),
+            claims,
+            halts_at,
         })
     }
 }
@@ -79,8 +88,8 @@ impl<'a> RunPlayer<'a, RingLinks> {
 // stands.
 fn broken_at<L: Links>(claims: &[NumberedClaim], machine: &Machine<L>) -> Option<u32>
     requires { length claims.now ≤ 2 ^ 32 }
-    ensures { result ≡ claims_of.broken claims.now (claims_of.remote_states
-        (abstraction (protocol_of machine.now.table) (config L.lists machine.now))) }
+    ensures { result ≡ claims_of.broken claims.now
+        (claims_of.remote_states (stands_for L.lists machine.now)) }
 {
     if claims.is_empty() {
         return None;
@@ -89,6 +98,26 @@ fn broken_at<L: Links>(claims: &[NumberedClaim], machine: &Machine<L>) -> Option
     let mut states = [0u8; 64];
     abstract_states(machine, &mut states);
     broken_among(claims, &states[..machine.n() as usize])
+}
+
+// The number of the first claim that is broken behind a step of which this is told, and that led the
+// machine to where it stands. Unless it is an event, it is the one from before it.
+fn broken_after<L: Links>(
+    claims: &[NumberedClaim],
+    machine: &Machine<L>,
+    told: Told,
+    before: Option<u32>,
+) -> Option<u32>
+    requires few { length claims.now ≤ 2 ^ 32 }
+    requires before { UnlessEvent told (before ≡ claims_of.broken claims.now
+        (claims_of.remote_states (stands_for L.lists machine.now))) }
+    ensures { result ≡ claims_of.broken claims.now
+        (claims_of.remote_states (stands_for L.lists machine.now)) }
+{
+    match told {
+        Told::Is(_) => broken_at(claims, machine),
+        Told::Refused | Told::Stutter => before,
+    }
 }
 
 impl<'a, L: Links> Player for RunPlayer<'a, L> {
@@ -103,19 +132,13 @@ impl<'a, L: Links> Player for RunPlayer<'a, L> {
     }
 
     fn play(&mut self, alloc: Global, item: Step, out: &mut Vec<u8>) -> Result<(), NoMemory> {
-        let told = event_of(&self.machine, item);
-        let displaced = self.machine.would_displace(item);
-        let words = told_line(alloc, &self.machine, item, told, out);
-        let stepped = self.machine.step(item);
-        words?;
-        match stepped {
-            Stepped::Moved => moved_lines(alloc, &self.machine, item, displaced, out),
-            Stepped::Refused => Ok(()),
-        }
+        let (told, written) = play_step(alloc, &mut self.machine, (), item, out, Ok(()));
+        self.halts_at = broken_after(self.claims, &self.machine, told, self.halts_at);
+        written
     }
 
     fn halts(&self) -> Option<u32> {
-        broken_at(self.claims, &self.machine)
+        self.halts_at
     }
 
     fn finish(&self, alloc: Global, out: &mut Vec<u8>) -> Result<(), NoMemory> {

@@ -1,12 +1,14 @@
 //! The texts of which a trace of steps is made.
 #![tactic(auto, using(proto_model::proofs::Continuing::whole))]
 
-ghost use Rattle.std.specs.Prelude.{◌≡◌, ◌++◌, codes};
+ghost use Rattle.std.specs.Prelude.{◌≡◌, ◌++◌, codes, Option};
 ghost use Rattle.rv_base.specs.Appended.{Appends};
 ghost use Rattle.proto_model.specs.Continued.{Continues};
 ghost use Rattle.controller_table.specs.Sound.{protocol_of};
+ghost use Rattle.async_shape.specs.Config.{Config};
 ghost use Rattle.async_shape.specs.Site.{site, remote_named};
 ghost use Rattle.async_machine.specs.Standing.{setting, config};
+ghost use Rattle.async_machine.specs.Effects.{IsStep};
 ghost use Rattle.async_machine.specs.StepText as step_texts;
 ghost use Rattle.abstraction_map.specs.Abstraction.{abstraction};
 ghost use Rattle.abstraction_map.specs.Told as spec;
@@ -16,7 +18,7 @@ ghost use Rattle.run_replay.specs.ToldWords.{told_words};
 use crate::state_lines::{put_home_line, put_remote_line, put_remote_lines};
 use crate::told_words::put_told;
 use abstraction_map::{Told, abstract_of};
-use async_machine::{Machine, Step, step_text};
+use async_machine::{Machine, Step, Stepped, step_text};
 use ordered_links::Links;
 use proto_model::{Appending, append};
 use rv_base::NoMemory;
@@ -43,6 +45,28 @@ pub fn told_line<L: Links>(
     let so_far = append(out, so_far, b": ");
     let so_far = put_told(alloc, machine, step, told, out, so_far);
     append(out, so_far, b"\n")
+}
+
+/// The same, unless memory ran out before.
+#[tactic(auto, using(schedule_replay::proofs::Chained::begun))]
+pub(crate) fn put_told_line<L: Links>(
+    alloc: Global,
+    machine: &Machine<L>,
+    step: Step,
+    told: Told,
+    out: &mut Vec<u8>,
+    so_far: Appending,
+) -> Appending
+    requires { told ≡ spec.told (setting machine.now) (config L.lists machine.now) step }
+    ensures { Continues (step_texts.step_text step
+        ++ (codes ": " ++ (told_words (protocol_of machine.now.table)
+        (abstraction (protocol_of machine.now.table) (config L.lists machine.now)) told
+        ++ codes "\n"))) so_far out.old.items result out.new.items }
+{
+    match so_far {
+        Ok(()) => told_line(alloc, machine, step, told, out),
+        Err(failure) => Err(failure),
+    }
 }
 
 // Appends the lines of the processes at which the step takes place or a packet of it arrives, and
@@ -89,6 +113,29 @@ fn put_moved_lines<L: Links>(
     match displaced {
         Some(j) => put_remote_line(alloc, machine, u32::from(j), out, so_far),
         None => so_far,
+    }
+}
+
+/// Appends the lines that follow a step that led the machine to where it stands, if it moved, and
+/// that displaced the request of this remote, if of any. Nothing is appended where it was refused,
+/// or where memory ran out before.
+pub(crate) fn put_lines_if_moved<L: Links>(
+    alloc: Global,
+    machine: &Machine<L>,
+    step: Step,
+    stepped: Stepped,
+    displaced: Option<u8>,
+    out: &mut Vec<u8>,
+    so_far: Appending,
+) -> Appending
+    ensures { (before : Config) (after : Option Config)
+        → IsStep stepped before (config L.lists machine.now) after
+        → Continues (texts.lines_if (protocol_of machine.now.table) step displaced after) so_far
+        out.old.items result out.new.items }
+{
+    match stepped {
+        Stepped::Moved => put_moved_lines(alloc, machine, step, displaced, out, so_far),
+        Stepped::Refused => so_far,
     }
 }
 

@@ -6,7 +6,7 @@ use Rattle.array_replay.proofs.array_player.ArrayPlayerPlayer.play.Goals as goal
 
 pub play_meant-requires-clause-there : goal.play_meant-requires-clause-there
 play_meant-requires-clause-there c =
-    let array = c.self.inside.array in
+    let array = c.self.inside.lines.array in
     let setting = array_setting array in
     let in_step =
     c.shared_lists_are_in_step.ensures.sharing setting array.config c.shares.ensures.shares in

@@ -1,34 +1,35 @@
--- The block of the step is written: its words, and the lines after it, where it moved.
-use Rattle.std.proofs.Common.{◌++◌, refl, ap, ◌∙◌}
+-- The block of the step is written, and unless it is an event the claims stay as they were.
+use Rattle.std.proofs.Common.{◌++◌, ap, ◌∙◌}
 use Rattle.std.proofs.lemmas.Result.{on_ok_weaker}
-use Rattle.controller_table.specs.Sound.{protocol_of}
-use Rattle.async_machine.specs.Standing.{setting, config}
-use Rattle.run_replay.specs.RunTrace.{Running, step_block}
+use Rattle.proto_model.proofs.Continuing.{whole}
 use Rattle.schedule_replay.proofs.Chained.{whole_there}
-use Rattle.run_replay.proofs.PlayedSteps.{block-moved, block-refused}
+use Rattle.run_replay.specs.PlayedStep.{stands_for, unclaimed}
+use Rattle.run_replay.specs.RunTrace.{Running, running_after, step_block}
+use Rattle.run_replay.proofs.KeptClaims.{claims-kept}
+use Rattle.run_replay.proofs.PlayedSteps.{taken-leads}
 use Rattle.run_replay.proofs.run_player.RunPlayerPlayer.play.Goals as goal
-use Rattle.run_replay.proofs.run_player.RunPlayerPlayer.play.Goals.{in-Moved, in-Refused}
+
+pub broken_after-self-inside-requires-clause-before : goal.broken_after-self-inside-requires-clause-before
+broken_after-self-inside-requires-clause-before g c =
+    let player = c.self.inside in
+    let lists = g.L.Links.lists in
+    claims-kept c.play_step-told.result.0 player.claims.now (stands_for lists player.machine)
+    (stands_for lists c.play_step-told.new.taker) player.halts_at c.play_step-told.ensures.still
+    c.self.invariant.1
+
+pub returns-clause-after : goal.returns-clause-after
+returns-clause-after g c =
+    let player = c.self.inside in
+    taken-leads g.L.Links.lists g.L.Links.put_effect g.L.Links.take_effect player.claims.now
+    player.machine c.args.item c.play_step-told.new.taker c.play_step-told.ensures.after
+    ∙ ap (λ (running : Running). running_after running c.args.item) c.self.view_is
 
 pub returns-clause-tells : goal.returns-clause-tells
 returns-clause-tells g c =
-    let machine = c.self.inside.machine in
-    let lists = g.L.Links.lists in
+    let block = step_block (unclaimed g.L.Links.lists c.self.inside.machine) c.args.item in
     let start = c.args.out.now.items in
-    let words = c.told_line-words.new.out.items in
-    let seen = ap (λ (running : Running). start ++ step_block running c.args.item) c.self.view_is in
-    elim c.match-stepped.branch [
-      | in-Moved w ↦
-          rw (w.result-is, w.out-is) (on_ok_weaker w.moved_lines.result
-          (λ written. block-moved (setting machine) (config lists machine) c.args.item
-          c.self.inside.claims.now c.event_of-told.result start words c.event_of-told.ensures.value
-          c.in_ok-words.ensures (protocol_of c.step-stepped.new.self.table)
-          c.would_displace-displaced.result (config lists c.step-stepped.new.self) _
-          (ap protocol_of w.in-Moved.ensures.kept.0) c.would_displace-displaced.ensures
-          w.in-Moved.ensures.step written ∙ seen)
-          (whole_there _ w.moved_lines.result _ _ w.moved_lines.ensures))
-      | in-Refused w ↦
-          rw (w.result-is, w.out-is) (block-refused (setting machine) (config lists machine)
-          c.args.item c.self.inside.claims.now c.event_of-told.result start words
-          c.event_of-told.ensures.value c.in_ok-words.ensures words w.in-Refused.ensures.step.0 refl
-          ∙ seen)
-    ]
+    let written = c.play_step-told.result.1 in
+    on_ok_weaker written
+    (λ is. is ∙ ap (λ (running : Running). start ++ step_block running c.args.item) c.self.view_is)
+    (whole_there block written start c.play_step-told.new.out.items
+    (whole block written start c.play_step-told.new.out.items c.play_step-told.ensures.tells))

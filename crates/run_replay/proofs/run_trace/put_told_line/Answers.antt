@@ -1,6 +1,6 @@
 -- Where memory ran out before, nothing is appended.
 use Rattle.schedule_replay.proofs.Chained.{ceased}
-use Rattle.array_replay.proofs.array_trace.put_told_line.Goals as goal
+use Rattle.run_replay.proofs.run_trace.put_told_line.Goals as goal
 
 pub returns-in-Err : goal.returns-in-Err
 returns-in-Err g c =
