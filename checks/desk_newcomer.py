@@ -59,7 +59,8 @@ TYPED = [
     ("tools/walk own.rv 4 | sed -n 2,3p", 0, "^stuck: none$"),
     # With two nobody ever goes on: all wait, and the walk says how.
     ("tools/walk own.rv 2", 8, "// stuck after 4 events"),
-    ("./rvc table own.rv lean | grep '^  Gather'", 0, "^  Gather take 0: ack, Gather/0, Gather$"),
+    # `go` is the reply of `come`: a remote that has come awaits nothing else.
+    ("./rvc table own.rv lean | grep '^  Gather'", 0, "^  Gather take 0: owe go, Gather/0, Gather$"),
     ("./rvc json own.rv plain | python3 -m json.tool", 0, '"name": "meet"'),
     ("./rvc run own.rv 3 2 plain < steps > trace.run", 0, ""),
     ("sed -n '/^abstract/,$p' trace.run", 0, r"^  home Release here=\{0,1,2\} n=0 who=#2$"),
