@@ -41,7 +41,7 @@ remote {
 }
 claim atmost 3 in Wait;
 """
-# Two come and are let go too early: the home forgets to wait for the third.
+# All three come and are let go; then the home gathers again.
 EVENTS = "".join("tau %d 0\nup %d %d 0\n" % (j, j, j == 2) for j in range(3)) + "".join(
     "down %d 0 0\n" % j for j in range(3)) + "tau home 1\n"
 STEPS = "".join("remote %d tau 0\nremote %d send\nup %d\nhome take %d\ndown %d\n" % (5 * (j,))
@@ -59,7 +59,8 @@ TYPED = [
     ("tools/walk own.rv 4 | sed -n 2,3p", 0, "^stuck: none$"),
     # With two nobody ever goes on: all wait, and the walk says how.
     ("tools/walk own.rv 2", 8, "// stuck after 4 events"),
-    ("./rvc table own.rv lean | grep '^  Gather'", 0, "^  Gather take 0: ack, Gather/0, Gather$"),
+    # `go` is the reply of `come`: a remote that has come awaits nothing else.
+    ("./rvc table own.rv lean | grep '^  Gather'", 0, "^  Gather take 0: owe go, Gather/0, Gather$"),
     ("./rvc json own.rv plain | python3 -m json.tool", 0, '"name": "meet"'),
     ("./rvc run own.rv 3 2 plain < steps > trace.run", 0, ""),
     ("sed -n '/^abstract/,$p' trace.run", 0, r"^  home Release here=\{0,1,2\} n=0 who=#2$"),
@@ -81,7 +82,8 @@ TYPED = [
     ("printf 12q | tools/step own.rv 2 | tail -n 14", 0, "home"),
     ("tools/measure own.rv 3 plain 2 --steps steps", 0, "^events +6$"),
     ("tools/report own.rv 3 2 plain --steps steps -o own.html && test -s own.html", 0, ""),
-    ("tools/export murphi own.rv 3 > own.m && grep -c '^rule' own.m || true", 0, ""),
+    # One rule for each local step, and for each two guards that may meet.
+    ("tools/export murphi own.rv 3 > own.m && grep -c '^ *rule ' own.m", 0, "^5$"),
     ("tools/rtl own.rv 3 2 lean -o rtl", 0, "meet_home.sv"),
     ("tools/rtl own.rv lean 3 2 -o other > out && diff -r rtl other", 0, ""),
     # What goes wrong is said with its line, by the launcher and by what needs no program.
