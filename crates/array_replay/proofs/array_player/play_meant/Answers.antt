@@ -10,5 +10,5 @@ returns-clause-tells c =
     let at = c.args.at in
     block-placed (running_of array) at.item at.line c.args.step (line_config array at.line)
     c.requires.meant (line-there array at.line c.requires.there) c.put_in_line-so_far.result
-    c.play_step.result.1 c.args.out.now.items c.put_in_line-so_far.new.out.items
-    c.play_step.new.out.items c.put_in_line-so_far.ensures c.play_step.ensures.tells
+    c.play_step-written.result.1 c.args.out.now.items c.put_in_line-so_far.new.out.items
+    c.play_step-written.new.out.items c.put_in_line-so_far.ensures c.play_step-written.ensures.tells
