@@ -1,7 +1,6 @@
 -- What is appended is the number of the cache line and the block of its controllers.
 use Rattle.array_replay.specs.Standing.{running_of, line_config}
-use Rattle.array_replay.proofs.TakenInLine.{line-there}
-use Rattle.array_replay.proofs.ToldInLine.{block-placed}
+use Rattle.array_replay.proofs.ToldInLine.{line-there, block-placed}
 use Rattle.array_replay.proofs.array_player.play_meant.Goals as goal
 
 pub returns-clause-tells : goal.returns-clause-tells
