@@ -1,5 +1,4 @@
 pub mod ArrayWords
 pub mod MeantLines
 pub mod ToldInLine
-pub mod TakenInLine
 pub mod LinesOfRuns

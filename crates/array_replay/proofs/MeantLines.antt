@@ -4,7 +4,7 @@ use Rattle.std.proofs.Common.{List, [], length, Option, Some, None, IsSome}
 use Rattle.std.proofs.Common.{slice_get, refl, sym, ap, ◌∙◌, subst}
 use Rattle.std.specs.Option.{option_map, option_and_then}
 use Rattle.std.specs.Prelude.{slice_set}
-use Rattle.std.proofs.lemmas.Option.{same_Some, slice_get_within}
+use Rattle.std.proofs.lemmas.Option.{slice_get_within}
 use Rattle.std.proofs.lemmas.Bool.{ltb-true}
 use Rattle.rv_base.proofs.Lists.{some_when, some_map, some_and_then, slice_get-set_same}
 use Rattle.ordered_links.specs.Link.{Link, Up, Down}

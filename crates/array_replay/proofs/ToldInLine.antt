@@ -1,9 +1,9 @@
 -- The block of a step that is meant for a cache line, as it is put together, where an array starts,
 -- and the last texts of its cache lines.
-use Rattle.std.proofs.Common.{◌≡◌, ℕ, ◌+◌, List, [], ◌++◌, take, Option, Some, None, codes}
+use Rattle.std.proofs.Common.{◌≡◌, ℕ, ◌+◌, ◌<◌, length, List, [], ◌++◌, take, Option, Some, codes}
 use Rattle.std.proofs.Common.{Result, Ok, OnOk, get_or, slice_get, sym, ap, ◌∙◌, append_assoc}
 use Rattle.std.specs.Option.{option_map_or}
-use Rattle.std.proofs.lemmas.Option.{get_or_from_slice_get, slice_get_within}
+use Rattle.std.proofs.lemmas.Option.{get_or_from_slice_get, slice_get-get_or, slice_get_within}
 use Rattle.rv_base.specs.Lists.{flat_from}
 use Rattle.rv_base.proofs.Lists.{flat_from-one_more}
 use Rattle.proto_model.specs.Tokens.{Text}
@@ -11,17 +11,18 @@ use Rattle.proto_model.specs.Continued.{Continues}
 use Rattle.proto_model.proofs.Continuing.{whole}
 use Rattle.proto_model.specs.Numbered.{NumberedProtocol}
 use Rattle.controller_table.specs.Sound.{Tabled, table_in, protocol_of}
-use Rattle.async_shape.specs.Setting.{Setting}
-use Rattle.async_shape.specs.Config.{Config}
+use Rattle.async_shape.specs.Config.{Config, start}
 use Rattle.async_shape.specs.declared.step.Step.{Step}
 use Rattle.async_machine.specs.Standing.{setting_of}
 use Rattle.schedule_replay.proofs.Chained.{grown, whole_there}
 use Rattle.run_replay.specs.RunTrace.{step_block}
 use Rattle.run_replay.proofs.PlayedSteps.{protocol_of-table_in}
-use Rattle.line_array.specs.ArrayConfig.{ArrayConfig, array_start}
+use Rattle.line_array.specs.ArrayConfig.{array_start}
 use Rattle.line_array.specs.ArrayNext.{meant}
+use Rattle.line_array.specs.Standing.{ArrayStanding}
 use Rattle.line_array.specs.declared.line_step.LineStep.{LineStep}
 use Rattle.array_replay.specs.ArrayLines.{array_text}
+use Rattle.array_replay.specs.Standing.{line_config}
 use Rattle.array_replay.specs.ArrayTrace.{ArrayRunning, alone, line_head, block_of_line}
 use Rattle.array_replay.specs.ArrayTrace.{block_meant, array_block, array_begin, line_ending}
 
@@ -38,6 +39,12 @@ module _ (running : ArrayRunning) (s : LineStep) (a : ℕ) (own : Step) (c : Con
       (array_text s ++ codes ": refused\n")) is_meant
       ∙ ap (λ (line : Option Config). option_map_or (block_of_line running.setting a own) line [])
       there
+
+-- A line that is there stands so.
+pub line-there : (array : ArrayStanding) (a : ℕ) → a < length array.config.lines
+    → slice_get array.config.lines a ≡ Some (line_config array a)
+line-there array a within =
+    slice_get-get_or array.config.lines a (start (protocol_of array.table) 0) within
 
 -- Behind the number of the line the block of its controllers was appended: the block of the step.
 pub block-placed : {E : Type 0} (running : ArrayRunning) (s : LineStep) (a : ℕ) (own : Step)

@@ -1,8 +1,7 @@
 -- A step that is refused and a stutter leave what the controllers stand for as it was, and so the
 -- claim that is broken there.
-use Rattle.std.proofs.Common.{◌≡◌, ℕ, List, Option, Some, sym, ap, ◌∙◌}
+use Rattle.std.proofs.Common.{◌≡◌, ℕ, List, Option, sym, ap, ◌∙◌}
 use Rattle.std.proofs.lemmas.Option.{same_Some}
-use Rattle.proto_model.specs.Numbered.{NumberedProtocol}
 use Rattle.proto_model.specs.declared.numbered.NumberedClaim.{NumberedClaim}
 use Rattle.proto_model.specs.declared.rendezvous.RvConfig.{RvConfig}
 use Rattle.rendezvous_meaning.specs.Claims.{remote_states, broken}

@@ -1,6 +1,6 @@
 -- The block of a step, as it is put together, and where the controllers start.
-use Rattle.std.proofs.Common.{◌≡◌, ℕ, List, [], ◌++◌, length, replicate, Option, Some, None, codes}
-use Rattle.std.proofs.Common.{Result, unwrap_or, refl, sym, ap, subst, ◌∙◌, append_assoc, append-nil}
+use Rattle.std.proofs.Common.{◌≡◌, ℕ, List, [], ◌++◌, length, replicate, Option, codes}
+use Rattle.std.proofs.Common.{Result, unwrap_or, refl, sym, ap, subst, ◌∙◌, append_assoc}
 use Rattle.std.proofs.lemmas.List.{length-replicate}
 use Rattle.proto_model.specs.Tokens.{Text}
 use Rattle.proto_model.specs.Continued.{Continues}
@@ -28,8 +28,7 @@ use Rattle.abstraction_map.specs.declared.told.Told.{Told}
 use Rattle.run_replay.specs.ToldWords.{told_words}
 use Rattle.schedule_replay.proofs.Chained.{grown}
 use Rattle.run_replay.specs.PlayedStep.{Leads, IsTaken, unclaimed}
-use Rattle.run_replay.specs.RunTrace.{Running, running_after, step_block, lines_after, lines_if}
-use Rattle.run_replay.specs.RunTrace.{run_start}
+use Rattle.run_replay.specs.RunTrace.{Running, running_after, step_block, lines_if, run_start}
 
 -- these claims, and the controllers in this configuration
 abbrev pub running_so : List NumberedClaim → Setting → Config → Running
@@ -37,16 +36,10 @@ running_so claims setting c = record { claims = claims; setting = setting; confi
 
 -- ---- the block of a step
 
-words-joined : (start text colon told line lines : Text)
-    → (start ++ (text ++ (colon ++ (told ++ line)))) ++ lines
-    ≡ start ++ (text ++ (colon ++ (told ++ (line ++ lines))))
-words-joined start text colon told line lines = simp append_assoc refl
-
-lines-same : (protocol of : NumberedProtocol) (s : Step) (displaced sender : Option ℕ) (d : Config)
-    (after : Option Config) → of ≡ protocol → displaced ≡ sender → after ≡ Some d
-    → lines_after of d s displaced ≡ lines_if protocol s sender after
-lines-same protocol of s displaced sender d after is_of is_sender leads =
-    rw (is_of, is_sender, leads) refl
+words-joined : (text colon told line lines : Text)
+    → (text ++ (colon ++ (told ++ line))) ++ lines
+    ≡ text ++ (colon ++ (told ++ (line ++ lines)))
+words-joined text colon told line lines = simp append_assoc refl
 
 module _ (setting : Setting) (c : Config) (s : Step) where
   -- the words of a step that is told so
@@ -55,40 +48,6 @@ module _ (setting : Setting) (c : Config) (s : Step) where
       step_text s ++ (codes ": "
       ++ (told_words setting.protocol (abstraction setting.protocol c) told
       ++ codes "\n"))
-
-  module _ (claims : List NumberedClaim) (told : Told) (start words : Text)
-      (is_told : told ≡ spec.told setting c s) (has_words : words ≡ start ++ words_of told) where
-    -- The words with the lines that follow them are the block.
-    block-of : (lines : Text)
-        → lines ≡ lines_if setting.protocol s (displaced_sender setting c s) (next setting c s)
-        → words ++ lines ≡ start ++ step_block (running_so claims setting c) s
-    block-of lines is =
-        let stands = abstraction setting.protocol c in
-        let all : Told → Text → Text =
-        λ t after. start ++ (step_text s ++ (codes ": " ++ (told_words setting.protocol stands t
-        ++ (codes "\n" ++ after)))) in
-        ap (λ (text : Text). text ++ lines) has_words
-        ∙ words-joined start (step_text s) (codes ": ") (told_words setting.protocol stands told)
-        (codes "\n") lines
-        ∙ ap (λ (t : Told). all t lines) is_told
-        ∙ ap (all (spec.told setting c s)) is
-
-    -- The step moved, and the lines after it show where the controllers stand then.
-    pub block-moved : (of : NumberedProtocol) (displaced : Option ℕ) (d : Config) (all : Text)
-        → of ≡ setting.protocol → displaced ≡ displaced_sender setting c s
-        → next setting c s ≡ Some d → all ≡ words ++ lines_after of d s displaced
-        → all ≡ start ++ step_block (running_so claims setting c) s
-    block-moved of displaced d all is_of is_displaced leads written =
-        written ∙ block-of (lines_after of d s displaced)
-        (lines-same setting.protocol of s displaced (displaced_sender setting c s) d
-        (next setting c s) is_of is_displaced leads)
-
-    -- The step was refused, and no line follows it.
-    pub block-refused : (all : Text) → next setting c s ≡ None → all ≡ words
-        → all ≡ start ++ step_block (running_so claims setting c) s
-    block-refused all leads written =
-        written ∙ sym (append-nil words)
-        ∙ block-of [] (sym (ap (lines_if setting.protocol s (displaced_sender setting c s)) leads))
 
   -- The words of a step and the lines that follow it, if it moved, are its block.
   block-joined : (told : Told) (displaced : Option ℕ) → told ≡ spec.told setting c s
@@ -101,7 +60,7 @@ module _ (setting : Setting) (c : Config) (s : Step) where
       let all : Told → Option ℕ → Text =
       λ t o. step_text s ++ (codes ": " ++ (told_words setting.protocol stands t
       ++ (codes "\n" ++ lines_if setting.protocol s o after))) in
-      words-joined [] (step_text s) (codes ": ") (told_words setting.protocol stands told)
+      words-joined (step_text s) (codes ": ") (told_words setting.protocol stands told)
       (codes "\n") (lines_if setting.protocol s displaced after)
       ∙ ap (λ (t : Told). all t displaced) is_told
       ∙ ap (all (spec.told setting c s)) is_displaced

@@ -1,7 +1,6 @@
 -- The links after the move are the machine's, and its block tells of them.
 use Rattle.std.proofs.Common.{ap}
 use Rattle.std.proofs.lemmas.Result.{on_ok_weaker}
-use Rattle.async_machine.specs.Standing.{config}
 use Rattle.schedule_replay.proofs.Chained.{whole_there}
 use Rattle.lossy_replay.proofs.MovesTold.{made-within, move-leads, move-block}
 use Rattle.lossy_replay.proofs.lossy_player.make_move.Goals as goal
