@@ -10,7 +10,7 @@ pub overflow_cast-j : goal.overflow_cast-j
 overflow_cast-j g c =
     let at = setting c.args.machine.now in
     let stands = config g.L.Links.lists c.args.machine.now in
-    let enabled = subst (λ (s : Step). is_enabled at stands s ≡ true) c.in-HomeSend.is c.requires in
+    let enabled = subst (λ (s : Step). is_enabled at stands s ≡ true) c.in-HomeSend.is c.requires.enabled in
     let few =
     send-few at stands c.in-HomeSend.g c.in-HomeSend.j c.shaped.ensures enabled in
     omega arith
