@@ -18,3 +18,4 @@ pub mod BootsAsRun
 pub mod ConcludedReplays
 pub mod AuditedTraces
 pub mod AuditedRuns
+pub mod StoredRuns

@@ -12,3 +12,4 @@ pub mod Reply
 pub mod Storing
 pub mod BootedRuns
 pub mod AuditedRuns
+pub mod StoredRuns

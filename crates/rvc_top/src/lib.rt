@@ -18,7 +18,7 @@
 //! - `steady`: the call over sources and a sink that never fail.
 //! - `laws`: each run has a verdict, and one alone; `store_laws`: an image is of one protocol in
 //!   one mode, and booting it is running that; `audit_laws`: each trace is accepted, and what is
-//!   accepted is a run.
+//!   accepted is a run; `boot_laws`: what is stored is booted.
 //!
 //! The definitions that the contracts cite are in `specs/`: what each command does stands once, in
 //! `Commands`, and all else follows from that. The verdict is in `Verdict`, what a run leaves in
@@ -27,6 +27,7 @@
 
 mod audit_laws;
 mod boot;
+mod boot_laws;
 mod checked_file;
 mod command;
 mod conclusion;
@@ -46,6 +47,7 @@ mod top;
 
 pub use array_replay::read_array_line;
 pub use audit_laws::{every_trace_is_accepted, what_is_accepted_is_a_run};
+pub use boot_laws::what_is_stored_is_booted;
 pub use command::{Command, Driving, words_mean};
 pub use example::{Example, example_text};
 pub use laws::{every_run_is_decided, every_verdict_is_one};

@@ -115,6 +115,13 @@ pub fn rvc<P: Source, Q: Source, O: Sink>(
         × (Q.wants schedule.new ≡ Q.wants schedule.old)
         × (O.wants out.new ≡ O.wants out.old) }
 
+    // Where a count of the file changed, since a read of it failed or had no memory, the run ends
+    // there, whether schedule and sink tell their bytes or not: nothing is asked of the schedule,
+    // and nothing is given to the sink.
+    ensures file_stops { ((P.faults file.new ≡ P.faults file.old)
+        × (P.wants file.new ≡ P.wants file.old) → ⊥)
+        → (schedule.new ≡ schedule.old) × (out.new ≡ out.old) }
+
     // The file is as it was where the command doesn't read it. Where a command that reads it is
     // done, its last read answered that nothing is left. No more than one byte past the limit is
     // taken.

@@ -63,6 +63,11 @@ returns-clause-write_count g c =
     (run-of c.words_mean.result (meaning (map string_bytes c.args.words.now))
     c.words_mean.ensures.means _ _ _ c.carry_out.result c.carry_out.ensures).write_count
 
+pub returns-clause-file_stops : goal.returns-clause-file_stops
+returns-clause-file_stops g c =
+    (run-of c.words_mean.result (meaning (map string_bytes c.args.words.now))
+    c.words_mean.ensures.means _ _ _ c.carry_out.result c.carry_out.ensures).file_stops
+
 pub returns-clause-unread : goal.returns-clause-unread
 returns-clause-unread g c =
     (run-of c.words_mean.result (meaning (map string_bytes c.args.words.now))
