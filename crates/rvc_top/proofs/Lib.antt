@@ -18,4 +18,7 @@ pub mod BootsAsRun
 pub mod ConcludedReplays
 pub mod AuditedTraces
 pub mod AuditedRuns
+pub mod ShownRuns
+pub mod ShownWhereTold
 pub mod StoredRuns
+pub mod LossyRuns

@@ -12,4 +12,7 @@ pub mod Reply
 pub mod Storing
 pub mod BootedRuns
 pub mod AuditedRuns
+pub mod Shown
+pub mod ShownRuns
 pub mod StoredRuns
+pub mod LossyRuns
