@@ -1,0 +1,5 @@
+pub mod Answers
+pub mod Reading
+pub mod Known
+pub mod Reads
+pub mod AllAsked
