@@ -1,1 +1,2 @@
 pub mod RemoteByRemote
+pub mod CondsSoFar

@@ -1,5 +1,6 @@
 pub mod Answers
 pub mod Reading
+pub mod Adding
 pub mod Known
 pub mod Reads
 pub mod AllAsked

@@ -11,7 +11,6 @@ use Rattle.std.specs.Prelude.{◌≡◌, ℕ, ◌+◌, Bool, true, false, ◌||�
 use Rattle.std.specs.Prelude.{◌∷◌, ◌++◌, length, map, Option, Some, None, if◌then◌else◌, slice_get}
 use Rattle.std.specs.Prelude.{bytes_eq, codes}
 use Rattle.std.specs.Option.{option_map, option_and_then}
-use Rattle.std.specs.List.{list_all, slice_split}
 use Rattle.rv_base.specs.Numbers.{number_of}
 use Rattle.proto_model.specs.Tokens.{Text}
 use Rattle.proto_model.specs.Names.{place_of}
@@ -141,20 +140,23 @@ module _ (scope : Scope) where
   abbrev pub cond_before : Option RuleAtom → Option (List RuleAtom) → Option (List RuleAtom)
   cond_before cond later = option_and_then (λ a. option_map (λ more. a ∷ more) later) cond
 
-  -- the conditions that these parts say, each
-  abbrev pub each_cond : List (List Text) → Option (List RuleAtom)
-  each_cond [] = Some []
-  each_cond (ws ∷ parts) = cond_before (typed_cond ws) (each_cond parts)
-
   -- the word `and`
   abbrev pub is_and : Text → Bool
   is_and word = bytes_eq word (codes "and")
+
+  -- The conditions of these words, with `and` between them, where the words of the first one begin
+  -- with this part.
+  abbrev pub conds_behind : List Text → List Text → Option (List RuleAtom)
+  conds_behind part [] = cond_before (typed_cond part) (Some [])
+  conds_behind part (w ∷ ws) =
+      if is_and w then cond_before (typed_cond part) (conds_behind [] ws)
+      else conds_behind (part ++ w ∷ []) ws
 
   -- at most eight conditions, with `and` between them
   abbrev pub conds_of : List Text → Option (List RuleAtom)
   conds_of ws =
       option_and_then (λ conds. if nat_le (length conds) 8 then Some conds else None)
-      (each_cond (slice_split is_and ws))
+      (conds_behind [] ws)
 
 -- ---- states
 

@@ -4,6 +4,7 @@ ghost use Rattle.std.specs.Prelude.{◌≡◌, ◌≤◌, length, map, IfOk, OnO
 ghost use Rattle.std.specs.Option.{option_and_then};
 ghost use Rattle.proto_model.specs.Types as types;
 ghost use Rattle.questions.specs.Reading as reading;
+ghost use Rattle.questions.specs.Adding.{AddsCond};
 
 use crate::scope::{Scope, place_in};
 use proto_model::{Rel, RuleAtom, RuleExpr, RuleTerm, ValueType};
@@ -214,6 +215,25 @@ fn typed_cond(scope: &Scope, words: &[&[u8]]) -> Option<RuleAtom>
     if agrees(scope, cond) { Some(cond) } else { None }
 }
 
+// Adds the condition that these words say. False: they say none.
+fn add_cond(
+    scope: &Scope,
+    conds: &mut Items<RuleAtom>,
+    words: &[&[u8]],
+) -> Result<bool, NoMemory>
+    requires { length scope.now.names ≤ 256 }
+    ensures { IfOk result (λ said. AddsCond conds.old conds.new
+        (reading.typed_cond scope.now (map (λ w. w.now) words.now)) said) }
+{
+    match typed_cond(scope, words) {
+        Some(cond) => {
+            conds.push(cond)?;
+            Ok(true)
+        }
+        None => Ok(false),
+    }
+}
+
 /// The conditions that these words say: at most eight, with `and` between them. `None` where they
 /// say no such.
 pub(crate) fn conds_of(
@@ -226,11 +246,17 @@ pub(crate) fn conds_of(
         conds ≡ reading.conds_of scope.now (map (λ w. w.now) words.now)) }
 {
     let mut conds = Items::new(alloc);
-    for part in words.split(|word| *word == b"and".as_slice()) {
-        match typed_cond(scope, part) {
-            Some(cond) => conds.push(cond)?,
-            None => return Ok(None),
+    let mut start = 0;
+    for place in 0..words.len() {
+        if words[place] == b"and".as_slice() {
+            if !add_cond(scope, &mut conds, &words[start..place])? {
+                return Ok(None);
+            }
+            start = place + 1;
         }
+    }
+    if !add_cond(scope, &mut conds, &words[start..])? {
+        return Ok(None);
     }
     if conds.as_slice().len() <= 8 {
         Ok(Some(conds))
