@@ -1,2 +1,3 @@
 pub mod RemoteByRemote
 pub mod CondsSoFar
+pub mod StatesSoFar

@@ -38,19 +38,19 @@ module _ (p : NumberedProtocol) where
 abbrev pub most_questions : ℕ
 most_questions = 64
 
--- what follows a question in the line with this number, behind these: it is one too many, or kept
-abbrev pub asks : ℕ → List Asked → Question → (List Asked → Outcome) → Outcome
-asks number asked q later =
+-- The questions up to and with a line that has this number and says so, behind these. None where
+-- the line is refused: it is malformed, or says one question more than may be asked.
+abbrev pub after_line : ℕ → List Asked → Meaning Question → Option (List Asked)
+after_line number asked meaning.Blank = Some asked
+after_line number asked (meaning.Says q) =
     if nat_lt (length asked) most_questions
-    then later (asked ++ record { line = number; question = q } ∷ [])
-    else Refused (AtLine number)
+    then Some (asked ++ record { line = number; question = q } ∷ []) else None
+after_line number asked meaning.Bad = None
 
--- What follows a line with this number that says so. A question is kept, unless there are as many
--- as may be asked.
-abbrev pub says_then : ℕ → List Asked → Meaning Question → (List Asked → Outcome) → Outcome
-says_then number asked meaning.Blank later = later asked
-says_then number asked (meaning.Says q) later = asks number asked q later
-says_then number asked meaning.Bad later = Refused (AtLine number)
+-- what follows the line with this number; or it is refused
+abbrev pub goes_on : ℕ → Option (List Asked) → (List Asked → Outcome) → Outcome
+goes_on number (Some next) later = later next
+goes_on number None later = Refused (AtLine number)
 
 module _ (limits : Limits) (p : NumberedProtocol) where
   -- What follows a line behind so many others. A line past as many as there may be is refused, and
@@ -59,7 +59,7 @@ module _ (limits : Limits) (p : NumberedProtocol) where
   line_then before asked line later =
       if nat_le limits.lines before then Refused TooMany
       else (if nat_lt limits.line (length line) then Refused (AtLine (before + 1))
-      else says_then (before + 1) asked (question_line p line) later)
+      else goes_on (before + 1) (after_line (before + 1) asked (question_line p line)) later)
 
   -- The questions of these lines, which follow so many others and these questions.
   abbrev pub asked_lines : ℕ → List Asked → List Text → Outcome

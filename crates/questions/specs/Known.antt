@@ -1,8 +1,13 @@
 -- What the reader of questions keeps.
-use Rattle.std.specs.Prelude.{◌≡◌, ℕ, ◌≤◌, List, length, map}
+use Rattle.std.specs.Prelude.{◌≡◌, ℕ, ◌≤◌, List, length}
+use Rattle.proto_model.specs.Tokens.{Text}
 use Rattle.proto_model.specs.Numbered.{NumberedProtocol}
 use Rattle.questions.specs.Reading.{Listed, home_scope, remote_scope, states_named}
 use Rattle.questions.specs.declared.line.Known.TheInside.{Inside}
+
+-- a set of states, and the words behind the list of them
+abbrev pub listed : ℕ → List Text → Listed
+listed states rest = record { states = states; rest = rest }
 
 -- The names are those of this protocol, and few.
 pub record IsKnown (p : NumberedProtocol) (k : Inside) : Type 0 where

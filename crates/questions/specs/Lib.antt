@@ -4,3 +4,4 @@ pub mod Adding
 pub mod Known
 pub mod Reads
 pub mod AllAsked
+pub mod ReadsQuestions

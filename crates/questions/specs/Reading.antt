@@ -84,6 +84,14 @@ related left word right =
     option_and_then (λ a. option_and_then (λ b. option_map
     (λ r. record { left = a; rel = r; right = b }) (rel_of word)) right) left
 
+-- a condition before others
+abbrev pub cond_before : Option RuleAtom → Option (List RuleAtom) → Option (List RuleAtom)
+cond_before cond later = option_and_then (λ a. option_map (λ more. a ∷ more) later) cond
+
+-- the word `and`
+abbrev pub is_and : Text → Bool
+is_and word = bytes_eq word (codes "and")
+
 module _ (scope : Scope) where
   -- a number up to 65,535, or what is named
   abbrev pub number_or_named : Option ℕ → Text → Option RuleTerm
@@ -135,14 +143,6 @@ module _ (scope : Scope) where
   -- the condition that these words say, if its types agree
   abbrev pub typed_cond : List Text → Option RuleAtom
   typed_cond ws = option_and_then (λ a. if agrees a then Some a else None) (cond_of ws)
-
-  -- a condition before others
-  abbrev pub cond_before : Option RuleAtom → Option (List RuleAtom) → Option (List RuleAtom)
-  cond_before cond later = option_and_then (λ a. option_map (λ more. a ∷ more) later) cond
-
-  -- the word `and`
-  abbrev pub is_and : Text → Bool
-  is_and word = bytes_eq word (codes "and")
 
   -- The conditions of these words, with `and` between them, where the words of the first one begin
   -- with this part.

@@ -234,6 +234,13 @@ fn add_cond(
     }
 }
 
+// Whether the word is `and`.
+fn is_and(word: &[u8]) -> bool
+    ensures { result ≡ reading.is_and word.now }
+{
+    word == b"and".as_slice()
+}
+
 /// The conditions that these words say: at most eight, with `and` between them. `None` where they
 /// say no such.
 pub(crate) fn conds_of(
@@ -248,7 +255,7 @@ pub(crate) fn conds_of(
     let mut conds = Items::new(alloc);
     let mut start = 0;
     for place in 0..words.len() {
-        if words[place] == b"and".as_slice() {
+        if is_and(words[place]) {
             if !add_cond(scope, &mut conds, &words[start..place])? {
                 return Ok(None);
             }

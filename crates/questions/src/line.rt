@@ -4,6 +4,7 @@ ghost use Rattle.std.specs.Prelude.{◌≡◌, ◌≤◌, ◌∷◌, length, map
 ghost use Rattle.rv_base.specs.Words.{words};
 ghost use Rattle.questions.specs.Reading as reading;
 ghost use Rattle.std.specs.Option.{option_and_then};
+ghost use Rattle.questions.specs.AllAsked.{question_line};
 ghost use Rattle.questions.specs.Known.{listed};
 
 use crate::conditions::conds_of;
@@ -51,7 +52,7 @@ fn states_from<'a, 'b>(
     words: &'b [&'a [u8]],
 ) -> Option<(u64, &'b [&'a [u8]])>
     requires { length names.now ≤ 64 }
-    ensures { option_map listed result
+    ensures { option_map (λ f. listed f.0 (map (λ w. w.now) f.1.now)) result
         ≡ reading.states_from names.now 0 (map (λ w. w.now) words.now) }
 {
     let mut set = 0;
@@ -68,7 +69,7 @@ fn states_from<'a, 'b>(
 // The same with at least one state.
 fn states_of<'a, 'b>(names: &[Items<u8>], words: &'b [&'a [u8]]) -> Option<(u64, &'b [&'a [u8]])>
     requires { length names.now ≤ 64 }
-    ensures { option_map listed result
+    ensures { option_map (λ f. listed f.0 (map (λ w. w.now) f.1.now)) result
         ≡ reading.states_of names.now (map (λ w. w.now) words.now) }
 {
     let (set, rest) = states_from(names, words)?;
@@ -179,7 +180,7 @@ impl<'a> Known<'a> {
 
     /// What a line says, without its LF and whatever its length.
     pub(crate) fn line(&self, alloc: Global, line: &[u8]) -> Result<Meaning<Question>, NoMemory>
-        ensures { IfOk result (λ meaning. meaning ≡ reading.question_line self.now line.now) }
+        ensures { IfOk result (λ meaning. meaning ≡ question_line self.now line.now) }
     {
         let words = words_of(alloc, line)?;
         if words.is_empty() {
