@@ -120,18 +120,18 @@ module _ (limits : Limits) (p : NumberedProtocol) where
             ∙ ap (λ k. asked_lines limits p k then more) count));
       }
 
-  pub next-goes : {U : Type 0} {before now : Option (List ℕ)} {r : Reading} {old : List Asked}
+  pub next-goes : (U : Type 0) {before now : Option (List ℕ)} {r : Reading} {old : List Asked}
       {done : List (List ℕ)} (after : Option (List ℕ)) (new : Reading) (then : List Asked)
       (asked : NextLine) → HasAsked before now r old done
       → NextMoves limits r new now after asked
-      → HearsNext p {U} old then new asked None
+      → HearsNext p {U = U} old then new asked None
       → HasAsked before after new then (done ++ new.text ∷ [])
-  next-goes after new then (next.Got number) h moves hears = line-goes h moves hears
-  next-goes after new then next.End h moves hears = absurd hears
-  next-goes after new then (next.TooLong number) h moves hears = absurd (cc)
-  next-goes after new then next.TooMany h moves hears = absurd (cc)
-  next-goes after new then next.ReadFault h moves hears = absurd (cc)
-  next-goes after new then next.NoMemory h moves hears = absurd (cc)
+  next-goes U after new then (next.Got number) h moves hears = line-goes h moves hears
+  next-goes U after new then next.End h moves hears = absurd hears
+  next-goes U after new then (next.TooLong number) h moves hears = absurd (cc)
+  next-goes U after new then next.TooMany h moves hears = absurd (cc)
+  next-goes U after new then next.ReadFault h moves hears = absurd (cc)
+  next-goes U after new then next.NoMemory h moves hears = absurd (cc)
 
   -- ---- the answer
 
@@ -245,10 +245,10 @@ module _ (limits : Limits) (p : NumberedProtocol) where
       → answer ≡ known
   same-answer answer known same = cc
 
-  told-owes : {U : Type 0} {before after : Option (List ℕ)} (then : List Asked)
+  told-owes : {U : Type 0} (before after : Option (List ℕ)) (then : List Asked)
       (answer : Result U Unread) (why : Unread) → Some answer ≡ Some (Err why)
       → Owes before after (Err why) → Owes before after (answered then answer)
-  told-owes {U} {before} {after} then answer why same owes =
+  told-owes {U} before after then answer why same owes =
       subst (λ (a : Result U Unread). Owes before after (answered then a))
       (sym (same-answer answer (Err why) same)) owes
 
@@ -261,14 +261,14 @@ module _ (limits : Limits) (p : NumberedProtocol) where
   next-owes after new then (next.Got number) answer h moves hears =
       heard-owes then answer h moves hears
   next-owes after new then next.End answer h moves hears = end-owes then answer h moves hears
-  next-owes after new then (next.TooLong number) answer h moves hears =
-      told-owes then answer (BadLine number) hears (long-owes h moves)
-  next-owes after new then next.TooMany answer h moves hears =
-      told-owes then answer TooManyLines hears (many-owes h moves)
-  next-owes after new then next.ReadFault answer h moves hears =
-      told-owes then answer ReadFault hears (broken-owes h moves)
+  next-owes {U} {before} after new then (next.TooLong number) answer h moves hears =
+      told-owes before after then answer (BadLine number) hears (long-owes h moves)
+  next-owes {U} {before} after new then next.TooMany answer h moves hears =
+      told-owes before after then answer TooManyLines hears (many-owes h moves)
+  next-owes {U} {before} after new then next.ReadFault answer h moves hears =
+      told-owes before after then answer ReadFault hears (broken-owes h moves)
   next-owes {U} {before} after new then next.NoMemory answer h moves hears =
-      told-owes then answer NoMemory hears (owes-none before after)
+      told-owes before after then answer NoMemory hears (owes-none before after)
 
   -- few bytes were taken
   pub next-few : {before now : Option (List ℕ)} {r : Reading} {old : List Asked}
@@ -284,6 +284,21 @@ module _ (limits : Limits) (p : NumberedProtocol) where
   next-few after new next.NoMemory h moves = lacks-few limits h.reads moves
 
 -- ---- the counts
+
+stays-or-rises : (wants : Bool) (before now : ℕ) → now ≡ before → MayRise wants before now
+stays-or-rises true before now same = omega (arith, same)
+stays-or-rises false before now same = same
+
+-- where reading goes on, no read failed, and none had no memory
+pub goes-quiet : (U : Type 0) (p : NumberedProtocol) (old then : List Asked) (new : Reading) (asked : NextLine)
+    → HearsNext p {U = U} old then new asked None
+    → (next_failed asked ≡ false) × (next_wants asked ≡ false)
+goes-quiet U p old then new (next.Got number) hears = (refl, refl)
+goes-quiet U p old then new next.End hears = absurd hears
+goes-quiet U p old then new (next.TooLong number) hears = absurd (cc)
+goes-quiet U p old then new next.TooMany hears = absurd (cc)
+goes-quiet U p old then new next.ReadFault hears = absurd (cc)
+goes-quiet U p old then new next.NoMemory hears = absurd (cc)
 
 module _ {U : Type 0} (p : NumberedProtocol) where
   told-answer : (answer known : Result U Unread) → Some answer ≡ Some known → answer ≡ known
@@ -318,10 +333,6 @@ module _ {U : Type 0} (p : NumberedProtocol) where
   next-failed old then new next.NoMemory answer hears =
       ap (λ (a : Result U Unread). asking_failed a) (told-answer answer (Err NoMemory) hears)
 
-  stays-or-rises : (wants : Bool) (before now : ℕ) → now ≡ before → MayRise wants before now
-  stays-or-rises true before now same = omega (arith, same)
-  stays-or-rises false before now same = same
-
   -- the source had no memory only where the answer says so
   pub next-wants : (old then : List Asked) (new : Reading) (before now : ℕ) (asked : NextLine)
       (answer : Result U Unread) → HearsNext p old then new asked (Some answer)
@@ -338,17 +349,6 @@ module _ {U : Type 0} (p : NumberedProtocol) where
       stays-or-rises (asking_wants answer) before now wants
   next-wants old then new before now next.NoMemory answer hears wants =
       rw (told-answer answer (Err NoMemory) hears) wants
-
-  -- where reading goes on, no read failed, and none had no memory
-  pub goes-quiet : (old then : List Asked) (new : Reading) (asked : NextLine)
-      → HearsNext p {U} old then new asked None
-      → (next_failed asked ≡ false) × (next_wants asked ≡ false)
-  goes-quiet old then new (next.Got number) hears = (refl, refl)
-  goes-quiet old then new next.End hears = absurd hears
-  goes-quiet old then new (next.TooLong number) hears = absurd (cc)
-  goes-quiet old then new next.TooMany hears = absurd (cc)
-  goes-quiet old then new next.ReadFault hears = absurd (cc)
-  goes-quiet old then new next.NoMemory hears = absurd (cc)
 
   line-not-all : (old then all : List Asked) (new : Reading) (number : ℕ)
       (answer : Result U Unread) → HearsLine p old then new number (Some answer)

@@ -123,8 +123,8 @@ fn read_lines<Q: Source>(
         → Q.ended source.new ≡ true }
 {
     loop {
-        let next = lines.next(source);
-        if let Some(answer) = hear_next(alloc, known, asked, lines, next) {
+        let got = lines.next(source);
+        if let Some(answer) = hear_next(alloc, known, asked, lines, got) {
             return answer;
         }
     }
