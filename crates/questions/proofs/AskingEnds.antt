@@ -10,7 +10,7 @@ use Rattle.rv_base.specs.Whole.{TakesAtMost}
 use Rattle.proto_model.specs.Numbered.{NumberedProtocol}
 use Rattle.proto_model.specs.Tokens.{Text}
 use Rattle.schedule_replay.specs.ScheduleLimits.{most_taken}
-use Rattle.schedule_replay.specs.TextLines.{lines_of, closed_lines, open_part, joined}
+use Rattle.schedule_replay.specs.TextLines.{closed_lines, open_part, joined}
 use Rattle.schedule_replay.specs.Reading.{Reading, nothing_read}
 use Rattle.schedule_replay.specs.NextLine.{GetsLine, FindsEnd, FindsLong, FindsMany, Breaks}
 use Rattle.schedule_replay.specs.NextLine.{NextMoves, next_failed, next_wants}
@@ -26,10 +26,10 @@ use Rattle.schedule_replay.proofs.LinesSoFar.{HasRead-many, HasRead-broken, HasR
 use Rattle.schedule_replay.proofs.LinesSoFar.{long-few, many-few, broken-few, lacks-few}
 use Rattle.schedule_replay.proofs.ReplayEnds.{IfSome-from, ask-few}
 use Rattle.schedule_replay.proofs.WithinLimits.{few-lines, many-lines, short-line, long-line}
-use Rattle.questions.specs.AllAsked.{Outcome, All, Refused, question_line, after_line}
-use Rattle.questions.specs.AllAsked.{asked_lines, asked_of}
-use Rattle.questions.specs.ReadsQuestions.{Finds, ReadsSo, answered, asking_failed, asking_wants}
-use Rattle.questions.specs.ReadsQuestions.{HearsLine, HearsNext, why_failed}
+use Rattle.questions.specs.AllAsked.{Refused, question_line, after_line}
+use Rattle.questions.specs.AllAsked.{asked_lines}
+use Rattle.questions.specs.ReadsQuestions.{ReadsSo, answered, asking_failed, asking_wants}
+use Rattle.questions.specs.ReadsQuestions.{HearsLine, HearsNext}
 use Rattle.questions.specs.declared.question.Asked.{Asked}
 use Rattle.questions.specs.declared.asking.Unread.{Unread}
 use Rattle.questions.specs.declared.asking.Unread.TheVariants.{BadLine, TooManyLines, ReadFault}

@@ -1,12 +1,11 @@
 -- A list of states, read word by word.
-use Rattle.std.proofs.Common.{◌≡◌, ℕ, ◌+◌, ◌<◌, ◌≤◌, true, false, List, [], ◌∷◌, length, map, drop}
+use Rattle.std.proofs.Common.{◌≡◌, ℕ, ◌+◌, ◌<◌, ◌≤◌, true, false, List, ◌∷◌, length, map, drop}
 use Rattle.std.proofs.Common.{get_or, Some, None, refl, sym, ap, ◌∙◌, arith}
 use Rattle.std.proofs.lemmas.List.{drop_more}
-use Rattle.std.specs.declared.option.Option.{Option}
 use Rattle.proto_model.specs.Names.{place_of}
 use Rattle.proto_model.specs.NumberSets.{with_number}
 use Rattle.proto_model.specs.Tokens.{Text}
-use Rattle.questions.specs.Reading.{Listed, ends_states, states_from}
+use Rattle.questions.specs.Reading.{ends_states, states_from}
 
 module _ (names : List Text) where
   list-ends : (set : ℕ) (w : Text) (ws : List Text) → ends_states w ≡ true

@@ -7,7 +7,7 @@
 -- The states behind `home` are the home's, those behind `with` the remotes'. A condition has the
 -- form of one of the language, cut into words, where `home.X` is the variable X of the home,
 -- `remote.X` that of the remote, and `remote` the remote itself; the latter two only behind `with`.
-use Rattle.std.specs.Prelude.{◌≡◌, ℕ, ◌+◌, Bool, true, false, ◌||◌, ◌&&◌, nat_le, nat_lt, List, []}
+use Rattle.std.specs.Prelude.{ℕ, Bool, ◌||◌, nat_le, nat_lt, List, []}
 use Rattle.std.specs.Prelude.{◌∷◌, ◌++◌, length, map, Option, Some, None, if◌then◌else◌, slice_get}
 use Rattle.std.specs.Prelude.{bytes_eq, codes}
 use Rattle.std.specs.Option.{option_map, option_and_then}

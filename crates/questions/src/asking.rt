@@ -157,7 +157,14 @@ pub fn read_questions<Q: Source>(
         return Err(Unread::NoMemory);
     };
     let mut asked = Items::new(alloc);
-    match read_lines(alloc, SCHEDULE_LIMITS, &known, &mut asked, &mut lines, source) {
+    match read_lines(
+        alloc,
+        SCHEDULE_LIMITS,
+        &known,
+        &mut asked,
+        &mut lines,
+        source,
+    ) {
         Ok(()) => Ok(asked),
         Err(why) => Err(why),
     }

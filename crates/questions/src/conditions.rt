@@ -212,15 +212,15 @@ fn typed_cond(scope: &Scope, words: &[&[u8]]) -> Option<RuleAtom>
     ensures { result ≡ reading.typed_cond scope.now (map (λ w. w.now) words.now) }
 {
     let cond = cond_of(scope, words)?;
-    if agrees(scope, cond) { Some(cond) } else { None }
+    if agrees(scope, cond) {
+        Some(cond)
+    } else {
+        None
+    }
 }
 
 // Adds the condition that these words say. False: they say none.
-fn add_cond(
-    scope: &Scope,
-    conds: &mut Items<RuleAtom>,
-    words: &[&[u8]],
-) -> Result<bool, NoMemory>
+fn add_cond(scope: &Scope, conds: &mut Items<RuleAtom>, words: &[&[u8]]) -> Result<bool, NoMemory>
     requires { length scope.now.names ≤ 256 }
     ensures { IfOk result (λ said. AddsCond conds.old conds.new
         (reading.typed_cond scope.now (map (λ w. w.now) words.now)) said) }

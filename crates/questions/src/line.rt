@@ -47,10 +47,7 @@ fn ends_states(word: &[u8]) -> bool
 }
 
 // The states that the words in front name, and the words behind them.
-fn states_from<'a, 'b>(
-    names: &[Items<u8>],
-    words: &'b [&'a [u8]],
-) -> Option<(u64, &'b [&'a [u8]])>
+fn states_from<'a, 'b>(names: &[Items<u8>], words: &'b [&'a [u8]]) -> Option<(u64, &'b [&'a [u8]])>
     requires { length names.now ≤ 64 }
     ensures { option_map (λ f. listed f.0 (map (λ w. w.now) f.1.now)) result
         ≡ reading.states_from names.now 0 (map (λ w. w.now) words.now) }

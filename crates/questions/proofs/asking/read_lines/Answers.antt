@@ -1,5 +1,5 @@
 -- Each turn keeps what was read and what was asked in step, and each answer says how it ends.
-use Rattle.std.proofs.Common.{◌≡◌, ℕ, Bool, true, false, Some, [], ◌∷◌, ◌++◌, refl, sym, ◌∙◌, ap}
+use Rattle.std.proofs.Common.{◌≡◌, ℕ, Bool, false, [], ◌∷◌, ◌++◌, refl, sym, ◌∙◌, ap}
 use Rattle.std.proofs.Common.{subst}
 use Rattle.rv_base.specs.Outside.{RisesWhere, MayRise}
 use Rattle.schedule_replay.specs.NextLine.{NextMoves, next_failed, next_wants}

@@ -1,9 +1,8 @@
 -- By `proofs/CondsSoFar.antt`.
-use Rattle.std.proofs.Common.{ℕ, ◌≡◌, [], List, Bool, Bor, map, slice_range, sym, subst, ◌∙◌}
+use Rattle.std.proofs.Common.{ℕ, [], List, Bool, Bor, map, slice_range, sym, subst, ◌∙◌}
 use Rattle.questions.specs.Adding.{AddsCond}
 use Rattle.questions.specs.Reading.{typed_cond}
-use Rattle.questions.proofs.CondsSoFar.{starts, goes-on, part-ends, part-refused, few-conds}
-use Rattle.questions.proofs.CondsSoFar.{many-conds, last-refused}
+use Rattle.questions.proofs.CondsSoFar.{starts, goes-on, part-ends}
 use Rattle.questions.proofs.conditions.conds_of.Goals.{then-is_and+in_ok-add_cond+else-not-branch, else-is_and}
 use Rattle.questions.proofs.conditions.conds_of.Goals as goal
 
