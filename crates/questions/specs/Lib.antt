@@ -1,0 +1,7 @@
+pub mod Answers
+pub mod Reading
+pub mod Adding
+pub mod Known
+pub mod Reads
+pub mod AllAsked
+pub mod ReadsQuestions
