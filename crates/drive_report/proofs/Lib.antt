@@ -1,3 +1,4 @@
+pub mod MapsSome
 pub mod NoneReady
 pub mod EnabledByKind
 pub mod Doing
