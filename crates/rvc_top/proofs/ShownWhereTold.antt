@@ -1,4 +1,5 @@
--- Where all bytes are told and it is decided how the run ends, what `run` and `boot` write is shown.
+-- Where all bytes are told and it is decided how the run ends, what `run` and `boot` write is
+-- shown.
 use Rattle.std.proofs.Common.{◌≡◌, ℕ, Option, Some, None, ◌++◌, IfSome, subst}
 use Rattle.std.proofs.lemmas.Option.{none-some, same_Some}
 use Rattle.proto_model.specs.Tokens.{Text}

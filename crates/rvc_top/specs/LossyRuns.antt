@@ -1,4 +1,5 @@
--- What `lossy` writes is what `run` writes, but for the moves of the network and the steps that wait.
+-- What `lossy` writes is what `run` writes, but for the moves of the network and the steps that
+-- wait.
 use Rattle.std.specs.Prelude.{◌≡◌, ℕ, ◌++◌, Some}
 use Rattle.proto_model.specs.Tokens.{Text}
 use Rattle.proto_model.specs.Numbered.{CheckedProtocol}
@@ -24,12 +25,12 @@ use Rattle.rvc_top.specs.declared.status.Status.TheVariants.{Done, FileRefused}
 abbrev pub lossy_task : ℕ → ℕ → Mode → Task
 lossy_task n k mode = (describe (Some (Lossy n k mode))).task
 
--- What is shown of a schedule over links that lose, repeat and reorder, where the run ends with this
--- status and writes this text: of a file, by its protocol.
+-- What is shown of a schedule over links that lose, repeat and reorder, where the run ends with
+-- this status and writes this text: of a file, by its protocol.
 pub record IsLossyShown (n k : ℕ) (mode : Mode) (file : Text) (checked : CheckedProtocol)
     (schedule : Text) (status : Status) (text : Text) : Type 0 where
-  -- So many lines of the schedule are played, up to what stops it, and the text is the blocks of the
-  -- items that they say, the last text, and the error text where the schedule is refused.
+  -- So many lines of the schedule are played, up to what stops it, and the text is the blocks of
+  -- the items that they say, the last text, and the error text where the schedule is refused.
   pub lines : ℕ
   pub stop : Stop
   pub stops :

@@ -1,6 +1,6 @@
--- What `run` and `boot` show, as one statement: the schedule says steps, and what is written are the
--- blocks of these steps, one after another from the start, each of which tells truly what its step
--- is in the protocol; and then how the run ended.
+-- What `run` and `boot` show, as one statement: the schedule says steps, and what is written are
+-- the blocks of these steps, one after another from the start, each of which tells truly what its
+-- step is in the protocol; and then how the run ended.
 use Rattle.std.specs.Prelude.{◌≡◌, ◌⊎◌, ℕ, ◌+◌, List, [], ◌∷◌, ◌++◌, Some, None, codes, decimal}
 use Rattle.std.specs.List.{AllByRecursion}
 use Rattle.proto_model.specs.Tokens.{Text}

@@ -14,8 +14,8 @@ use Rattle.rvc_top.specs.declared.status.Status.TheVariants.{Done}
 abbrev pub store_task : Mode → Task
 store_task mode = (describe (Some (Store mode))).task
 
--- What `store` writes of a file, where it is done, `boot` takes: it has the verdict on it that `run`
--- has on the file in the same mode, whatever the schedule, with as many remotes and slots.
+-- What `store` writes of a file, where it is done, `boot` takes: it has the verdict on it that
+-- `run` has on the file in the same mode, whatever the schedule, with as many remotes and slots.
 abbrev pub WhatIsStoredIsBooted : Type 0
 WhatIsStoredIsBooted =
     (mode : Mode) (file unread image : Text) → TaskVerdict (store_task mode) file unread Done image

@@ -154,8 +154,8 @@ pub fn rvc<P: Source, Q: Source, O: Sink>(
     // these steps, one after another from the start, and the last text, or the error text where the
     // schedule is refused; and the block of each step says that it is refused exactly where the
     // controllers can't take it, or an event that is one rendezvous step from what they stand for
-    // before to what they stand for after, or that it is a stutter, and they stand for the same. And
-    // so it is of `boot`, for the protocol and the mode of the control store that the file is.
+    // before to what they stand for after, or that it is a stutter, and they stand for the same.
+    // And so it is of `boot`, for the protocol and the mode of the control store that the file is.
     ensures shows { (n k : ℕ) (mode : AMode) (f s old : Text)
         → meaning (map string_bytes words.now) ≡ Some (Command.Run n k mode)
         → P.left file.old ≡ Some f → Q.left schedule.old ≡ Some s → O.taken out.old ≡ Some old
