@@ -1,6 +1,5 @@
 -- A lock that one remote has at a time, with its names and variables alone, and questions about it.
-use Rattle.std.specs.Prelude.{ℕ, List, [], ◌∷◌, Some, None, codes}
-use Rattle.std.specs.declared.option.Option.{Option}
+use Rattle.std.specs.Prelude.{ℕ, [], ◌∷◌, Some, None, codes}
 use Rattle.proto_model.specs.Tokens.{Text}
 use Rattle.proto_model.specs.Numbered.{NumberedProtocol}
 use Rattle.proto_model.specs.declared.guard.Rel.{Rel}

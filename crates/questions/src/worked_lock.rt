@@ -5,7 +5,9 @@
 ghost use Rattle.std.specs.Prelude.{◌≡◌, true, false, codes};
 ghost use Rattle.schedule_replay.specs.declared.player.Meaning.TheVariants as meaning;
 ghost use Rattle.questions.specs.Answers.{is_answered};
-ghost use Rattle.questions.specs.AllAsked.{question_line};
+ghost use Rattle.schedule_replay.specs.Played.{AtLine};
+ghost use Rattle.schedule_replay.specs.ScheduleLimits.{schedule_limits};
+ghost use Rattle.questions.specs.AllAsked.{Refused, question_line, asked_of};
 ghost use Rattle.questions.specs.WorkedLock.{lock, holder_is_known, counts_agree, none_holds, used};
 
 /// What lines say: nothing, a question of remotes, one of the home alone, or nothing that is right.
@@ -26,4 +28,11 @@ pub fn answers_about_a_lock()
     ensures still { is_answered (used 0) counts_agree ≡ true }
     ensures broken { is_answered (used 1) counts_agree ≡ false }
     ensures elsewhere { is_answered (used 1) none_holds ≡ true }
+{}
+
+/// Of two lines the second names what isn't declared, and so the text is refused there.
+pub fn second_line_is_refused()
+    ensures { asked_of schedule_limits lock
+        (codes "home Free : home.holder eq none\nwith Use : remote in home.none2\n")
+        ≡ Refused (AtLine 2) }
 {}
