@@ -5,3 +5,4 @@ pub mod Known
 pub mod Reads
 pub mod AllAsked
 pub mod ReadsQuestions
+pub mod WorkedLock

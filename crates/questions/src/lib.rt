@@ -8,6 +8,7 @@
 //! - `asking`: all questions of a source, and how reading them ends.
 //! - `needs`: which variables questions read, and in which states.
 //! - `laws`: what the definitions say, remote by remote.
+//! - `worked_lock`: questions about a lock, worked out.
 #![tactic(auto)]
 
 mod asking;
@@ -18,6 +19,7 @@ mod needs;
 mod question;
 mod scope;
 mod words;
+pub mod worked_lock;
 
 pub use asking::{Unread, read_questions};
 pub use laws::a_question_is_answered_remote_by_remote;
