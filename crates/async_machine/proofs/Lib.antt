@@ -1,13 +1,10 @@
 pub mod Bounds
 pub mod Choices
-pub mod Displaced
 pub mod Dropping
-pub mod Enabling
 pub mod Going
-pub mod Made
-pub mod Moved
 pub mod Rows
 pub mod Sent
-pub mod Stepping
 pub mod Tables
 pub mod Targets
+pub mod Made
+pub mod StepPlans

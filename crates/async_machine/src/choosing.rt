@@ -1,6 +1,6 @@
 //! Which guard a process takes, and what becomes of a request that comes to the home.
 
-ghost use Rattle.std.specs.Prelude.{◌≡◌, option_copied};
+ghost use Rattle.std.specs.Prelude.{◌≡◌, length, IsTrue, option_copied};
 ghost use Rattle.std.specs.List.{position, list_any, range_with_len};
 ghost use Rattle.std.specs.Option.{option_map};
 ghost use Rattle.proto_model.specs.Guards.{guards_of as spec_guards_of};
@@ -127,8 +127,9 @@ pub(crate) fn displaces(
     held: &[Held],
     request: &Held,
 ) -> bool
-    ensures { result
+    ensures value { result
         ≡ requests.displaces n (protocol_of table.now).home home.now k held.now request.now }
+    ensures full { IsTrue result → length held.now ≡ k }
 {
     !is_waiting(home.place)
         && (held.len() == k as usize

@@ -1,20 +1,22 @@
-//! The steps at the home: `home_tau`, `home_take`, `home_send`, `home_drop` and `up`, each by the
-//! definition of the same name. The other functions do, or look at, a part of one.
+//! The plans of the steps at the home: `home_tau`, `home_take`, `home_send`, `home_drop` and `up`,
+//! each by the definition of the same name. The other functions find a part of one.
 
 ghost use Rattle.std.specs.Prelude.{◌≡◌, ◌<◌, ◌&&◌, not, if◌then◌else◌, ℕ, List, length};
-ghost use Rattle.std.specs.Prelude.{IsTrue, Some, None};
-ghost use Rattle.std.specs.Option.{option_map_or};
+ghost use Rattle.std.specs.Prelude.{IsTrue, IfSome, Some, None};
+ghost use Rattle.std.specs.Option.{option_map, option_map_or};
 ghost use Rattle.proto_model.specs.Guards.{guards_of as spec_guards_of};
 ghost use Rattle.proto_model.specs.declared.numbered.Rule.{Rule as ARule};
 ghost use Rattle.controller_table.specs.Sound.{protocol_of};
 ghost use Rattle.controller_table.specs.declared.rows.GuardId.{GuardId as AGuardId};
-ghost use Rattle.slot_reserve.specs.Requests.{without_first, last_of};
+ghost use Rattle.slot_reserve.specs.Requests.{first_of, without_first, last_of};
 ghost use Rattle.ordered_links.specs.Link.{Down};
 ghost use Rattle.async_shape.specs.Config as config;
 ghost use Rattle.async_shape.specs.HomeSteps as steps;
 ghost use Rattle.async_shape.specs.Outcome as outcome;
 ghost use Rattle.async_shape.specs.Requests as requests;
-ghost use Rattle.async_machine.specs.Moves.{HomeMoves, going, put_said};
+ghost use Rattle.async_machine.specs.Moves.{going, put_said};
+ghost use Rattle.async_machine.specs.Planned as plans;
+ghost use Rattle.async_machine.specs.Planned.{HomePlans, Says, FitsIn, HasSlot};
 ghost use Rattle.async_machine.specs.Standing.{setting_of};
 
 use crate::choosing::{
@@ -23,27 +25,34 @@ use crate::choosing::{
 };
 use crate::controls::{given, home_body, home_guard, reply_of};
 use crate::parts::{home_after, home_after_ack, home_after_reply};
+use crate::planned::{Change, Debt, HeldChange, HomeChange, Planned};
 use crate::sending::Sends;
 use async_shape::{HomePlace, HomeState, Waiting};
 use controller_table::{GuardId, Table};
 use ordered_links::Packet;
 use proto_model::{Part, Rule, Value, guard_open, guards_of, is_open_tau};
-use slot_reserve::{Admitted, Held, Slots};
+use slot_reserve::{Held, Slots};
 
-// The home stands idle where the part stands.
-fn stand(home: &mut HomeState, part: Part)
-    ensures { home.new ≡ outcome.home_at home.old part }
+// The home stays where it is.
+fn staying(home: &HomeState) -> HomeChange
+    ensures { result ≡ plans.staying home.now }
 {
-    home.place = HomePlace::Idle(part.state);
-    home.vars = part.vars;
+    HomeChange {
+        place: home.place,
+        vars: home.vars,
+        debt: None,
+    }
 }
 
-// The home owes this message to remote j, or owes it none.
-fn owe(home: &mut HomeState, j: u8, debt: Option<u8>)
-    requires { j < length home.old.owed }
-    ensures { home.new ≡ outcome.owing j debt home.old }
+// The home stands idle where the part stands.
+fn standing_at(part: Part) -> HomeChange
+    ensures { result ≡ plans.standing_at part }
 {
-    home.owed.set(j as usize, debt);
+    HomeChange {
+        place: HomePlace::Idle(part.state),
+        vars: part.vars,
+        debt: None,
+    }
 }
 
 /// The message that the home owes to remote j.
@@ -58,9 +67,11 @@ pub(crate) fn owed_to(home: &HomeState, j: u8) -> Option<u8>
 
 /// The home takes its local step.
 #[tactic(auto, unfolding(async_shape::specs::HomeSteps::home_tau))]
-pub(crate) fn home_tau(table: &Table, home: &mut HomeState, slots: &Slots, g: u32) -> Option<Sends>
-    ensures { HomeMoves result home.old slots.now.held home.new slots.now.held
-        (steps.home_tau (setting_of table.now slots.now.size) home.old slots.now.held g) }
+pub(crate) fn home_tau(table: &Table, home: &HomeState, slots: &Slots, g: u32) -> Option<Planned>
+    ensures value { HomePlans home.now slots.now.held result
+        (steps.home_tau (setting_of table.now slots.now.size) home.now slots.now.held g) }
+    ensures says { IfSome result (Says (Some g) None) }
+    ensures fits { (k n : ℕ) → IfSome result (λ plan. FitsIn k slots.now.held n plan.change) }
 {
     let HomePlace::Idle(state) = home.place else {
         return None;
@@ -70,24 +81,36 @@ pub(crate) fn home_tau(table: &Table, home: &mut HomeState, slots: &Slots, g: u3
         return None;
     }
     let part = home_after(table, &home.vars, guard, 0, Value::Unit);
-    stand(home, part);
-    Some(Sends::Nothing)
+    Some(Planned {
+        change: Change::Home(standing_at(part), HeldChange::Stays),
+        sends: Sends::Nothing,
+        displaced: None,
+        guard: Some(g as u8),
+        message: None,
+    })
 }
 
-// An ack of the request of j; or where it has a reply the home owes that.
-fn answer(home: &mut HomeState, j: u8, reply: Option<u8>) -> Sends
-    requires { j < length home.old.owed }
-    ensures { (held : List Held)
-        → steps.request_taken held j home.old reply
-        ≡ outcome.at_home home.new (without_first j held) (put_said result) }
+// An ack of the request of j; or where it has a reply the home, which stands at this part, owes it.
+fn answer(part: Part, j: u8, reply: Option<u8>) -> (HomeChange, Sends)
+    ensures value { (held : List Held) (home : HomeState)
+        → steps.request_taken held j (outcome.home_at home part) reply
+        ≡ outcome.at_home (plans.home_after result.0 home) (without_first j held)
+        (put_said result.1) }
+    ensures debt { (n : ℕ) → j < n → plans.IsDebtOf n result.0.debt }
 {
-    match reply {
-        None => Sends::Down(j, Packet::Ack),
-        Some(p) => {
-            owe(home, j, Some(p));
-            Sends::Nothing
-        }
-    }
+    let debt = match reply {
+        None => return (standing_at(part), Sends::Down(j, Packet::Ack)),
+        Some(p) => Debt {
+            to: j,
+            message: Some(p),
+        },
+    };
+    let change = HomeChange {
+        place: HomePlace::Idle(part.state),
+        vars: part.vars,
+        debt: Some(debt),
+    };
+    (change, Sends::Nothing)
 }
 
 /// The home takes the request of j, among n remotes.
@@ -95,52 +118,76 @@ fn answer(home: &mut HomeState, j: u8, reply: Option<u8>) -> Sends
 pub(crate) fn home_take(
     table: &Table,
     n: u8,
-    home: &mut HomeState,
-    slots: &mut Slots,
+    home: &HomeState,
+    slots: &Slots,
     j: u8,
-) -> Option<Sends>
-    requires { j < length home.old.owed }
-    ensures value { HomeMoves result home.old slots.old.held home.new slots.new.held
-        (steps.home_take (setting_of table.now slots.old.size) n home.old slots.old.held j) }
-    ensures size { slots.new.size ≡ slots.old.size }
+) -> Option<Planned>
+    requires { j < n }
+    ensures value { HomePlans home.now slots.now.held result
+        (steps.home_take (setting_of table.now slots.now.size) n home.now slots.now.held j) }
+    ensures says { IfSome result (Says
+        (option_map (λ what. what.guard.number)
+        (requests.taking n (protocol_of table.now).home home.now slots.now.held j))
+        (option_map plans.held_message (first_of j slots.now.held))) }
+    ensures fits { (k : ℕ) → IfSome result (λ plan. FitsIn k slots.now.held n plan.change) }
 {
     let HomePlace::Idle(_) = home.place else {
         return None;
     };
     let request = *first_held(slots.held(), j)?;
-    let (_, guard) = taking_guard(table, n, home, &request)?;
+    let (number, guard) = taking_guard(table, n, home, &request)?;
     let part = home_after(table, &home.vars, guard, j, request.value);
-    stand(home, part);
-    slots.take(j);
-    Some(answer(home, j, reply_of(table, request.message)))
+    let (change, sends) = answer(part, j, reply_of(table, request.message));
+    Some(Planned {
+        change: Change::Home(change, HeldChange::Leaves(j)),
+        sends,
+        displaced: None,
+        guard: Some(number),
+        message: Some((request.message, request.value)),
+    })
 }
 
-// The home pays the reply that it owes to j by the guard, where this message is that reply.
+// The home pays the reply that it owes to j by guard g of its state, where this message is that
+// reply.
 fn pay(
     table: &Table,
-    home: &mut HomeState,
+    home: &HomeState,
     j: u8,
+    g: u8,
     guard: (&Rule, u8),
     owed: u8,
     message: (u8, Value),
-) -> Option<Sends>
-    requires { j < length home.old.owed }
-    ensures { (k n : ℕ) (held : List Held) (g : AGuardId)
-        → HomeMoves result home.old held home.new held
-        (steps.sent_to (setting_of table.now k) n home.old held j g
+) -> Option<Planned>
+    ensures value { (k n : ℕ) (held : List Held) (by : AGuardId) → HomePlans home.now held result
+        (steps.sent_to (setting_of table.now k) n home.now held j by
         (going guard.entry.0.now guard.entry.1) (Some owed) message) }
+    ensures says { IfSome result (Says (Some g) (Some message)) }
+    ensures fits { (k n : ℕ) (held : List Held) → j < n
+        → IfSome result (λ plan. FitsIn k held n plan.change) }
 {
     if owed != message.0 {
         return None;
     }
     let part = home_after(table, &home.vars, guard, j, Value::Unit);
-    stand(home, part);
-    owe(home, j, None);
-    Some(Sends::Down(j, Packet::Reply(message.0, message.1)))
+    let change = HomeChange {
+        place: HomePlace::Idle(part.state),
+        vars: part.vars,
+        debt: Some(Debt {
+            to: j,
+            message: None,
+        }),
+    };
+    Some(Planned {
+        change: Change::Home(change, HeldChange::Stays),
+        sends: Sends::Down(j, Packet::Reply(message.0, message.1)),
+        displaced: None,
+        guard: Some(g),
+        message: Some(message),
+    })
 }
 
-/// Whether the home may send a request to j.
-pub(crate) fn may_request(table: &Table, n: u8, home: &HomeState, slots: &Slots, j: u8) -> bool
+// Whether the home may send a request to j.
+fn may_request(table: &Table, n: u8, home: &HomeState, slots: &Slots, j: u8) -> bool
     ensures { result ≡ steps.may_request (setting_of table.now slots.now.size) n home.now
         slots.now.held j }
 {
@@ -152,25 +199,37 @@ pub(crate) fn may_request(table: &Table, n: u8, home: &HomeState, slots: &Slots,
 fn request(
     table: &Table,
     n: u8,
-    home: &mut HomeState,
+    home: &HomeState,
     slots: &Slots,
     j: u8,
     g: GuardId,
     message: (u8, Value),
-) -> Option<Sends>
-    ensures { (rule : ARule) → HomeMoves result home.old slots.now.held home.new slots.now.held
-        (steps.sent_to (setting_of table.now slots.now.size) n home.old slots.now.held j g rule None
+) -> Option<Planned>
+    ensures value { (rule : ARule) → HomePlans home.now slots.now.held result
+        (steps.sent_to (setting_of table.now slots.now.size) n home.now slots.now.held j g rule None
         message) }
+    ensures says { IfSome result (Says (Some g.guard) (Some message)) }
+    ensures fits { (k m : ℕ) → IfSome result (λ plan. FitsIn k slots.now.held m plan.change) }
 {
     if !may_request(table, n, home, slots, j) {
         return None;
     }
-    home.place = HomePlace::Waits(Waiting {
-        by: g,
-        on: j,
-        sent: message.1,
-    });
-    Some(Sends::Down(j, Packet::Request(message.0, message.1)))
+    let change = HomeChange {
+        place: HomePlace::Waits(Waiting {
+            by: g,
+            on: j,
+            sent: message.1,
+        }),
+        vars: home.vars,
+        debt: None,
+    };
+    Some(Planned {
+        change: Change::Home(change, HeldChange::Stays),
+        sends: Sends::Down(j, Packet::Request(message.0, message.1)),
+        displaced: None,
+        guard: Some(g.guard),
+        message: Some(message),
+    })
 }
 
 /// The home sends by the guard to j: the reply that it owes, or a request.
@@ -178,14 +237,17 @@ fn request(
 pub(crate) fn home_send(
     table: &Table,
     n: u8,
-    home: &mut HomeState,
+    home: &HomeState,
     slots: &Slots,
     g: u32,
     j: u8,
-) -> Option<Sends>
-    requires { j < length home.old.owed }
-    ensures { HomeMoves result home.old slots.now.held home.new slots.now.held
-        (steps.home_send (setting_of table.now slots.now.size) n home.old slots.now.held g j) }
+) -> Option<Planned>
+    requires { j < n }
+    ensures value { HomePlans home.now slots.now.held result
+        (steps.home_send (setting_of table.now slots.now.size) n home.now slots.now.held g j) }
+    ensures says { IfSome result
+        (Says (Some g) (plans.home_message (protocol_of table.now) home.now g)) }
+    ensures fits { (k : ℕ) → IfSome result (λ plan. FitsIn k slots.now.held n plan.change) }
 {
     let HomePlace::Idle(state) = home.place else {
         return None;
@@ -199,7 +261,7 @@ pub(crate) fn home_send(
     }
     let message = given(table, guard.0, &home.vars)?;
     match owed_to(home, j) {
-        Some(owed) => pay(table, home, j, guard, owed, message),
+        Some(owed) => pay(table, home, j, g as u8, guard, owed, message),
         None => {
             let by = GuardId {
                 state,
@@ -210,8 +272,8 @@ pub(crate) fn home_send(
     }
 }
 
-/// Whether the home, idle in this state, drops the request of j.
-pub(crate) fn drops(table: &Table, n: u8, home: &HomeState, slots: &Slots, j: u8, state: u8) -> bool
+// Whether the home, idle in this state, drops the request of j.
+fn drops(table: &Table, n: u8, home: &HomeState, slots: &Slots, j: u8, state: u8) -> bool
     ensures { result ≡ (not (requests.some_completes n (protocol_of table.now).home home.now
         slots.now.held)
         && steps.may_drop (setting_of table.now slots.now.size) n home.now slots.now.held j
@@ -228,12 +290,13 @@ pub(crate) fn home_drop(
     table: &Table,
     n: u8,
     home: &HomeState,
-    slots: &mut Slots,
+    slots: &Slots,
     j: u8,
-) -> Option<Sends>
-    ensures value { HomeMoves result home.now slots.old.held home.now slots.new.held
-        (steps.home_drop (setting_of table.now slots.old.size) n home.now slots.old.held j) }
-    ensures size { slots.new.size ≡ slots.old.size }
+) -> Option<Planned>
+    ensures value { HomePlans home.now slots.now.held result
+        (steps.home_drop (setting_of table.now slots.now.size) n home.now slots.now.held j) }
+    ensures says { IfSome result (Says None None) }
+    ensures fits { (k m : ℕ) → IfSome result (λ plan. FitsIn k slots.now.held m plan.change) }
 {
     let HomePlace::Idle(state) = home.place else {
         return None;
@@ -242,107 +305,128 @@ pub(crate) fn home_drop(
     if !drops(table, n, home, slots, j, state) {
         return None;
     }
-    slots.take(j);
-    Some(Sends::Down(j, Packet::Nack))
+    Some(Planned {
+        change: Change::Home(staying(home), HeldChange::Leaves(j)),
+        sends: Sends::Down(j, Packet::Nack),
+        displaced: None,
+        guard: None,
+        message: None,
+    })
 }
 
 // ---- a packet arrives
 
-// Where the home stands then, if it stands elsewhere.
-fn stand_if(home: &mut HomeState, part: Option<Part>)
-    ensures { home.new ≡ option_map_or (outcome.home_at home.old) part home.old }
+// The plan of an arrival, by which the home stands so, holds so, and sends this.
+fn arrival(change: HomeChange, held: HeldChange, sends: Sends, displaced: Option<u8>) -> Planned
+    ensures { result ≡ record {
+      change = Change.Home change held;
+      sends = sends;
+      displaced = displaced;
+      guard = None;
+      message = None;
+    } }
 {
-    if let Some(part) = part {
-        stand(home, part);
+    Planned {
+        change: Change::Home(change, held),
+        sends,
+        displaced,
+        guard: None,
+        message: None,
+    }
+}
+
+// Where the home stands then, if it stands elsewhere.
+fn standing_if(home: &HomeState, part: Option<Part>) -> HomeChange
+    ensures value { plans.home_after result home.now
+        ≡ option_map_or (outcome.home_at home.now) part home.now }
+    ensures debt { result.debt ≡ None }
+{
+    match part {
+        Some(part) => standing_at(part),
+        None => staying(home),
     }
 }
 
 // The packet of the remote on which the home waits.
-fn hear(table: &Table, home: &mut HomeState, waiting: Waiting, arrived: Packet)
-    ensures { home.new ≡ steps.home_answered (protocol_of table.now).home home.old waiting arrived }
+fn heard(table: &Table, home: &HomeState, waiting: Waiting, arrived: Packet) -> HomeChange
+    ensures value { plans.home_after result home.now
+        ≡ steps.home_answered (protocol_of table.now).home home.now waiting arrived }
+    ensures debt { result.debt ≡ None }
 {
     match arrived {
         Packet::Ack => {
             let part = home_after_ack(table, &home.vars, waiting.by, waiting.on);
-            stand_if(home, part);
+            standing_if(home, part)
         }
-        Packet::Nack | Packet::Request(_, _) => {
-            home.place = HomePlace::Idle(waiting.by.state);
-        }
+        Packet::Nack | Packet::Request(_, _) => HomeChange {
+            place: HomePlace::Idle(waiting.by.state),
+            vars: home.vars,
+            debt: None,
+        },
         Packet::Reply(_, value) => {
             let part = home_after_reply(table, &home.vars, waiting.by, waiting.on, value);
-            stand_if(home, part);
+            standing_if(home, part)
         }
     }
 }
 
 // A request that crosses the home's own is held in the ack slot.
-fn hold_crossing(slots: &mut Slots, j: u8, arrived: Packet)
-    requires { length slots.old.held < slots.old.size }
-    ensures { slots.new ≡ record slots.old { held = steps.held_crossing slots.old.held j arrived } }
+fn held_crossing(j: u8, arrived: Packet) -> HeldChange
+    ensures value { (held : List Held)
+        → plans.held_after result held ≡ steps.held_crossing held j arrived }
+    ensures slot { (k : ℕ) (held : List Held) → length held < k → HasSlot k held result }
 {
-    if let Packet::Request(message, value) = arrived {
-        slots.cross(Held {
+    match arrived {
+        Packet::Request(message, value) => HeldChange::Joins(Held {
             from: j,
             message,
             value,
-        });
+        }),
+        Packet::Ack | Packet::Nack | Packet::Reply(_, _) => HeldChange::Stays,
     }
 }
 
 // A request that is not kept: the last held one makes room for it, or its sender is told.
-fn not_kept(
-    table: &Table,
-    n: u8,
-    home: &HomeState,
-    slots: &mut Slots,
-    request: Held,
-) -> (Sends, Option<u8>)
-    ensures value { (if requests.displaces n (protocol_of table.now).home home.now slots.old.size
-        slots.old.held request
-        then option_map_or (steps.made_room home.now slots.old.held request)
-        (last_of slots.old.held) (outcome.at_home home.now slots.old.held None)
-        else outcome.at_home home.now slots.old.held
-        (outcome.put_on (Down request.from) Packet.Nack))
-        ≡ record {
-          home = home.now;
-          held = slots.new.held;
-          put = put_said result.0;
-          displaced_from = result.1;
-        } }
-    ensures size { slots.new.size ≡ slots.old.size }
+fn not_kept(table: &Table, n: u8, home: &HomeState, slots: &Slots, request: Held) -> Planned
+    ensures value { HomePlans home.now slots.now.held (Some result) (Some (
+        if requests.displaces n (protocol_of table.now).home home.now slots.now.size
+        slots.now.held request
+        then option_map_or (steps.made_room home.now slots.now.held request)
+        (last_of slots.now.held) (outcome.at_home home.now slots.now.held None)
+        else outcome.at_home home.now slots.now.held
+        (outcome.put_on (Down request.from) Packet.Nack))) }
+    ensures says { Says None None result }
+    ensures fits { (m : ℕ) → FitsIn slots.now.size slots.now.held m result.change }
 {
+    let stays = staying(home);
     if !displaces(table, n, home, slots.size(), slots.held(), &request) {
-        return (Sends::Down(request.from, Packet::Nack), None);
+        let nack = Sends::Down(request.from, Packet::Nack);
+        return arrival(stays, HeldChange::Stays, nack, None);
     }
-    let last = slots.displace(request);
-    (Sends::Down(last.from, Packet::Nack), Some(last.from))
+    match slots.held().last() {
+        Some(last) => {
+            let nack = Sends::Down(last.from, Packet::Nack);
+            arrival(stays, HeldChange::MakesRoom(request), nack, Some(last.from))
+        }
+        None => arrival(stays, HeldChange::Stays, Sends::Nothing, None),
+    }
 }
 
 // A request arrives on whose sender the home doesn't wait.
-fn up_request(
-    table: &Table,
-    n: u8,
-    home: &HomeState,
-    slots: &mut Slots,
-    request: Held,
-) -> (Sends, Option<u8>)
+fn up_request(table: &Table, n: u8, home: &HomeState, slots: &Slots, request: Held) -> Planned
     requires { IsTrue (requests.is_waiting home.now.place)
-        → length slots.old.held < slots.old.size }
-    ensures value { steps.up_request (setting_of table.now slots.old.size) n home.now slots.old.held
-        request
-        ≡ record {
-          home = home.now;
-          held = slots.new.held;
-          put = put_said result.0;
-          displaced_from = result.1;
-        } }
-    ensures size { slots.new.size ≡ slots.old.size }
+        → length slots.now.held < slots.now.size }
+    ensures value { HomePlans home.now slots.now.held (Some result) (Some
+        (steps.up_request (setting_of table.now slots.now.size) n home.now slots.now.held request)) }
+    ensures says { Says None None result }
+    ensures fits { (m : ℕ) → FitsIn slots.now.size slots.now.held m result.change }
 {
     let completes = completes(table, n, home, &request);
-    match slots.admit(request, completes, is_waiting(home.place)) {
-        Admitted::Kept => (Sends::Nothing, None),
-        Admitted::Nacked => not_kept(table, n, home, slots, request),
+    if slots.admits(completes, is_waiting(home.place)) {
+        let joins = HeldChange::Joins(request);
+        arrival(staying(home), joins, Sends::Nothing, None)
+    } else {
+        not_kept(table, n, home, slots, request)
     }
 }
 
@@ -351,24 +435,19 @@ fn up_other(
     table: &Table,
     n: u8,
     home: &HomeState,
-    slots: &mut Slots,
+    slots: &Slots,
     j: u8,
     arrived: Packet,
-) -> (Sends, Option<u8>)
+) -> Planned
     requires { IsTrue (requests.is_waiting home.now.place)
-        → length slots.old.held < slots.old.size }
-    ensures value { steps.up_other (setting_of table.now slots.old.size) n home.now slots.old.held j
-        arrived
-        ≡ record {
-          home = home.now;
-          held = slots.new.held;
-          put = put_said result.0;
-          displaced_from = result.1;
-        } }
-    ensures size { slots.new.size ≡ slots.old.size }
+        → length slots.now.held < slots.now.size }
+    ensures value { HomePlans home.now slots.now.held (Some result) (Some
+        (steps.up_other (setting_of table.now slots.now.size) n home.now slots.now.held j arrived)) }
+    ensures says { Says None None result }
+    ensures fits { (m : ℕ) → FitsIn slots.now.size slots.now.held m result.change }
 {
     let Packet::Request(message, value) = arrived else {
-        return (Sends::Nothing, None);
+        return arrival(staying(home), HeldChange::Stays, Sends::Nothing, None);
     };
     let request = Held {
         from: j,
@@ -378,64 +457,28 @@ fn up_other(
     up_request(table, n, home, slots, request)
 }
 
-/// The packet of remote j, among n, arrives at the home. Answers what is sent, and the sender of
-/// the request that was displaced, if one was.
+/// The packet of remote j, among n, arrives at the home.
 #[tactic(auto, unfolding(async_shape::specs::HomeSteps::up))]
 pub(crate) fn up(
-    table: &Table,
-    n: u8,
-    home: &mut HomeState,
-    slots: &mut Slots,
-    j: u8,
-    arrived: Packet,
-) -> (Sends, Option<u8>)
-    requires { IsTrue (requests.is_waiting home.old.place)
-        → length slots.old.held < slots.old.size }
-    ensures value { steps.up (setting_of table.now slots.old.size) n home.old slots.old.held j
-        arrived
-        ≡ record {
-          home = home.new;
-          held = slots.new.held;
-          put = put_said result.0;
-          displaced_from = result.1;
-        } }
-    ensures size { slots.new.size ≡ slots.old.size }
-{
-    if let HomePlace::Waits(waiting) = home.place {
-        if waiting.on == j {
-            hear(table, home, waiting, arrived);
-            hold_crossing(slots, j, arrived);
-            return (Sends::Nothing, None);
-        }
-    }
-    up_other(table, n, home, slots, j, arrived)
-}
-
-/// The sender of the request that would be displaced where this packet of remote j arrived; none
-/// where none would be.
-#[tactic(auto, unfolding(async_shape::specs::HomeSteps::up))]
-pub(crate) fn displaced_by(
     table: &Table,
     n: u8,
     home: &HomeState,
     slots: &Slots,
     j: u8,
     arrived: Packet,
-) -> Option<u8>
-    ensures { result ≡ (steps.up (setting_of table.now slots.now.size) n home.now slots.now.held j
-        arrived).displaced_from }
+) -> Planned
+    requires { IsTrue (requests.is_waiting home.now.place)
+        → length slots.now.held < slots.now.size }
+    ensures value { HomePlans home.now slots.now.held (Some result) (Some
+        (steps.up (setting_of table.now slots.now.size) n home.now slots.now.held j arrived)) }
+    ensures says { Says None None result }
+    ensures fits { (m : ℕ) → FitsIn slots.now.size slots.now.held m result.change }
 {
-    let Packet::Request(message, value) = arrived else {
-        return None;
-    };
-    let request = Held {
-        from: j,
-        message,
-        value,
-    };
-    if !displaces(table, n, home, slots.size(), slots.held(), &request) {
-        return None;
+    if let HomePlace::Waits(waiting) = home.place {
+        if waiting.on == j {
+            let change = heard(table, home, waiting, arrived);
+            return arrival(change, held_crossing(j, arrived), Sends::Nothing, None);
+        }
     }
-    let last = slots.held().last()?;
-    Some(last.from)
+    up_other(table, n, home, slots, j, arrived)
 }

@@ -1,27 +1,32 @@
 //! The machine.
 
-ghost use Rattle.std.specs.Prelude.{◌≡◌, ◌<◌, ◌≤◌, length, replicate, slice_index_or, IfOk};
+ghost use Rattle.std.specs.Prelude.{◌≡◌, ◌<◌, ◌≤◌, length, replicate, slice_index_or, IfOk, IfSome};
+ghost use Rattle.std.specs.Prelude.{Some};
 ghost use Rattle.std.specs.Option.{option_map};
 ghost use Rattle.ordered_links.specs.Lists.{no_packets};
 ghost use Rattle.controller_table.specs.Sound.{protocol_of};
 ghost use Rattle.async_shape.specs.Config as of_config;
-ghost use Rattle.async_shape.specs.Fired.{row_place};
-ghost use Rattle.async_shape.specs.Next.{next, is_in_range, put_of, take_of, displaced_sender};
+ghost use Rattle.async_shape.specs.Admitting.{IsAdmitting};
+ghost use Rattle.async_shape.specs.Bounded.{IsBounded};
+ghost use Rattle.async_shape.specs.Fired.{ByRow, row_place};
+ghost use Rattle.async_shape.specs.Next.{next, outcome, is_enabled, is_in_range, put_of, take_of};
+ghost use Rattle.async_shape.specs.Next.{displaced_sender};
 ghost use Rattle.async_shape.specs.Shape.{IsShaped};
 ghost use Rattle.async_shape.specs.View.{nobody};
 ghost use Rattle.async_machine.specs.Arriving.{IsLinked};
-ghost use Rattle.async_machine.specs.Effects.{ChangedBy, IsStep};
+ghost use Rattle.async_machine.specs.Effects.{Changed, ChangedBy, IsStep};
+ghost use Rattle.async_machine.specs.Planned.{planned_outcome, guard_behind, message_behind, Fits};
 ghost use Rattle.async_machine.specs.Standing.{setting, config, waited_on, sent_by};
 
-use crate::choosing::is_waiting;
-use crate::home::displaced_by;
-use crate::moves::moves;
+use crate::performing::make;
+use crate::planned::Planned;
+use crate::planning::plan_of;
 use crate::sending::{arriving, send, take};
 use crate::start::{start_home, start_remotes};
 use crate::stepped::Stepped;
 use async_shape::{HomePlace, HomeState, RemoteState, Request, Step};
 use controller_table::{Place, Table};
-use ordered_links::{Links, Packet};
+use ordered_links::Links;
 use proto_model::{Value, Vars};
 use rv_base::{Items, NoMemory};
 use slot_reserve::{Held, Slots};
@@ -104,37 +109,91 @@ impl<'a, L: Links> Machine<'a, L> {
         }
     }
 
+    /// What the step does, of which nothing is done yet: performed, the plan does what the step is
+    /// defined to do. None exactly where the step is not enabled, which it also isn't where a number
+    /// of a remote or of a guard in it is out of range. The plan says the guard and the message that
+    /// stand behind the step. Takes no memory. The work grows with the requests that are held and
+    /// the guards of one state, not with n.
+    pub fn plan(&self, step: Step) -> Option<Planned>
+        ensures does { option_map (planned_outcome (config L.lists self.now) step) result
+            ≡ outcome (setting self.now) (config L.lists self.now) step }
+        ensures guard { IfSome result (λ plan. plan.guard
+            ≡ guard_behind (protocol_of self.now.table) (config L.lists self.now) step) }
+        ensures message { IfSome result (λ plan. plan.message
+            ≡ message_behind (protocol_of self.now.table) (config L.lists self.now) step) }
+        ensures fits { IfSome result (Fits self.now.slots (config L.lists self.now)) }
+    {
+        if !self.names_some(step) {
+            return None;
+        }
+        let arrived = arriving(&self.links, step);
+        plan_of(
+            self.table,
+            &self.home,
+            &self.slots,
+            self.remotes.as_slice(),
+            arrived,
+            step,
+        )
+    }
+
+    /// Performs the plan of this step, as the machine stands: then it stands in the next
+    /// configuration. One row of its table explains how a process changed, or none fired and each
+    /// process stays where it is. At most one packet is put on a link, and then at most one is
+    /// taken, each with the effect of the links. Takes no memory.
+    pub fn perform(&mut self, step: Step, plan: &Planned)
+        requires does { outcome (setting self.old) (config L.lists self.old) step
+            ≡ Some (planned_outcome (config L.lists self.old) step plan.now) }
+        requires fits { Fits self.old.slots (config L.lists self.old) plan.now }
+        ensures step { next (setting self.old) (config L.lists self.old) step
+            ≡ Some (config L.lists self.new) }
+        ensures row { ByRow (setting self.old) (config L.lists self.old) (config L.lists self.new)
+            step self.old.table.home.rows self.old.table.remote.rows }
+        ensures kept { (self.new.table ≡ self.old.table) × (self.new.slots ≡ self.old.slots) }
+        ensures effect { Changed L.put_effect L.take_effect self.old.links
+            (put_of (setting self.old) (config L.lists self.old) step)
+            (take_of (setting self.old) (config L.lists self.old) step) self.new.links }
+    {
+        make(
+            &mut self.home,
+            &mut self.slots,
+            &mut self.remotes,
+            &plan.change,
+        );
+        send(&mut self.links, plan.sends);
+        take(&mut self.links, step);
+    }
+
     /// Takes the step. It moved exactly where there is a next configuration, in which the machine
     /// stands then; else it is refused and nothing changed. It is refused where it is not enabled,
-    /// and where a number of a remote or of a guard in it is out of range. At most one packet is
-    /// put on a link, and then at most one is taken, each with the effect of the links. Takes no
-    /// memory.
+    /// and where a number of a remote or of a guard in it is out of range. Where it moved, one row of
+    /// its table explains how a process changed, or none fired and each process stays where it is.
+    /// At most one packet is put on a link, and then at most one is taken, each with the effect of
+    /// the links. Takes no memory.
     pub fn step(&mut self, step: Step) -> Stepped
         ensures step { IsStep result (config L.lists self.old) (config L.lists self.new)
             (next (setting self.old) (config L.lists self.old) step) }
+        ensures row { result ≡ Stepped.Moved → ByRow (setting self.old) (config L.lists self.old)
+            (config L.lists self.new) step self.old.table.home.rows self.old.table.remote.rows }
         ensures kept { (self.new.table ≡ self.old.table) × (self.new.slots ≡ self.old.slots) }
         ensures refused { result ≡ Stepped.Refused → self.new ≡ self.old }
         ensures effect { ChangedBy L.put_effect L.take_effect result self.old.links
             (put_of (setting self.old) (config L.lists self.old) step)
             (take_of (setting self.old) (config L.lists self.old) step) self.new.links }
     {
-        if !self.names_some(step) {
-            return Stepped::Refused;
-        }
-        let arrived = arriving(&self.links, step);
-        let Some(sends) = moves(
-            self.table,
-            &mut self.home,
-            &mut self.slots,
-            &mut self.remotes,
-            arrived,
-            step,
-        ) else {
+        let Some(plan) = self.plan(step) else {
             return Stepped::Refused;
         };
-        send(&mut self.links, sends);
-        take(&mut self.links, step);
+        self.perform(step, &plan);
         Stepped::Moved
+    }
+
+    /// Whether the step is enabled. Takes no memory. The work grows with the requests that are
+    /// held and the guards of one state, not with n.
+    pub fn is_enabled(&self, step: Step) -> bool
+        ensures { result ≡ is_enabled (setting self.now) (config L.lists self.now) step }
+    {
+        self.plan(step).is_some()
     }
 
     /// The remote whose held request the step would displace, counted from 0; none where it would
@@ -142,26 +201,30 @@ impl<'a, L: Links> Machine<'a, L> {
     pub fn would_displace(&self, step: Step) -> Option<u8>
         ensures { result ≡ displaced_sender (setting self.now) (config L.lists self.now) step }
     {
-        let Step::Up(j) = step else {
-            return None;
-        };
-        if !self.names_some(step) {
-            return None;
-        }
-        let packet = self.links.up_at(j as u8, 0)?;
-        displaced_by(
-            self.table,
-            self.n(),
-            &self.home,
-            &self.slots,
-            j as u8,
-            packet,
-        )
+        self.plan(step)?.displaced
     }
 
     /// Each configuration in which the machine stands has the shape.
     pub fn shaped(&self)
         ensures { IsShaped (setting self.now) (config L.lists self.now) }
+    {
+        let _ = &self.home;
+    }
+
+    /// Each configuration in which the machine stands is bounded: at most k requests are held, and
+    /// at most k - 1 while the home waits; at most 2 packets are on an up link and 3 on a down link;
+    /// and what arrives next is expected where it arrives.
+    pub fn bounded(&self)
+        ensures { IsBounded (setting self.now) (config L.lists self.now) }
+    {
+        let _ = &self.home;
+    }
+
+    /// In each configuration in which the machine stands a request that arrives is nacked although
+    /// it completes a guard only where the slots are full and some held request completes one; and a
+    /// request that may be dropped or displaced completes none.
+    pub fn admitting(&self)
+        ensures { IsAdmitting (setting self.now) (config L.lists self.now) }
     {
         let _ = &self.home;
     }

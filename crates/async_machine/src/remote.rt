@@ -1,25 +1,26 @@
-//! The steps at a remote. Each function computes the definition of the same name: how the remote
-//! stands after the step, and the packet, if any, that it puts on its up link.
+//! The plans of the steps at a remote. Each function computes the definition of the same name: how
+//! the remote stands after the step, and the packet, if any, that it puts on its up link.
 
-ghost use Rattle.std.specs.Prelude.{◌≡◌, ℕ, None};
+ghost use Rattle.std.specs.Prelude.{◌≡◌, ℕ, None, Some, IfSome};
 ghost use Rattle.std.specs.Option.{option_map, option_map_or};
 ghost use Rattle.controller_table.specs.Sound.{protocol_of};
 ghost use Rattle.async_shape.specs.Guards.{answering_guard};
 ghost use Rattle.async_shape.specs.Outcome as outcome;
 ghost use Rattle.async_shape.specs.RemoteSteps as steps;
-ghost use Rattle.async_machine.specs.Moves.{remote_did, going};
+ghost use Rattle.async_machine.specs.Moves.{going, put_said};
+ghost use Rattle.async_machine.specs.Planned as plans;
+ghost use Rattle.async_machine.specs.Planned.{RemotePlans, Says};
 ghost use Rattle.async_machine.specs.Standing.{setting_of};
 
 use crate::choosing::{active_guard, answering_guard};
 use crate::controls::{given, remote_guard, reply_of};
 use crate::parts::{remote_after, remote_after_ack, remote_after_reply};
+use crate::planned::{Change, Planned};
+use crate::sending::Sends;
 use async_shape::{RemoteState, Request};
 use controller_table::{GuardId, Place, Table};
 use ordered_links::Packet;
 use proto_model::{Part, Value, is_open_tau};
-
-/// How a remote stands after a step, and the packet that it puts on its up link.
-pub(crate) type Did = (RemoteState, Option<Packet>);
 
 // The remote idle where the part stands.
 fn remote_at(remote: &RemoteState, part: Part) -> RemoteState
@@ -32,11 +33,12 @@ fn remote_at(remote: &RemoteState, part: Part) -> RemoteState
     }
 }
 
-/// The remote takes its local step.
+/// Remote j takes its local step.
 #[tactic(auto, unfolding(async_shape::specs::RemoteSteps::remote_tau))]
-pub(crate) fn remote_tau(table: &Table, remote: &RemoteState, g: u32) -> Option<Did>
-    ensures { (k j : ℕ) → option_map (λ did. remote_did j did.0 did.1) result
-        ≡ steps.remote_tau (setting_of table.now k) remote.now g }
+pub(crate) fn remote_tau(table: &Table, remote: &RemoteState, j: u8, g: u32) -> Option<Planned>
+    ensures value { (k : ℕ) → RemotePlans j result
+        (steps.remote_tau (setting_of table.now k) remote.now g) }
+    ensures says { IfSome result (Says (Some g) None) }
 {
     let Place::Comm(state) = remote.place else {
         return None;
@@ -46,14 +48,22 @@ pub(crate) fn remote_tau(table: &Table, remote: &RemoteState, g: u32) -> Option<
         return None;
     }
     let part = remote_after(table, &remote.vars, guard, Value::Unit);
-    Some((remote_at(remote, part), None))
+    Some(Planned {
+        change: Change::Remote(j, remote_at(remote, part)),
+        sends: Sends::Nothing,
+        displaced: None,
+        guard: Some(g as u8),
+        message: None,
+    })
 }
 
-/// The remote sends its request.
+/// Remote j sends its request.
 #[tactic(auto, unfolding(async_shape::specs::RemoteSteps::remote_send))]
-pub(crate) fn remote_send(table: &Table, remote: &RemoteState) -> Option<Did>
-    ensures { (k j : ℕ) → option_map (λ did. remote_did j did.0 did.1) result
-        ≡ steps.remote_send (setting_of table.now k) j remote.now }
+pub(crate) fn remote_send(table: &Table, remote: &RemoteState, j: u8) -> Option<Planned>
+    ensures value { (k : ℕ) → RemotePlans j result
+        (steps.remote_send (setting_of table.now k) j remote.now) }
+    ensures says { IfSome result
+        (Says (plans.sending_number (protocol_of table.now).remote remote.now) None) }
 {
     let Place::Comm(state) = remote.place else {
         return None;
@@ -69,21 +79,27 @@ pub(crate) fn remote_send(table: &Table, remote: &RemoteState) -> Option<Did>
         vars: remote.vars,
         slot: None,
     };
-    Some((waiting, Some(Packet::Request(message, value))))
+    Some(Planned {
+        change: Change::Remote(j, waiting),
+        sends: Sends::Up(j, Packet::Request(message, value)),
+        displaced: None,
+        guard: Some(number),
+        message: None,
+    })
 }
 
-// The remote has completed the guard by which it answers: it acks, or is due to send the reply.
-fn answered(part: Part, reply: Option<u8>) -> Did
-    ensures { (j : ℕ) → remote_did j result.0 result.1 ≡ steps.answered j part reply }
+// Remote j has completed the guard by which it answers: it acks, or is due to send the reply.
+fn answered(j: u8, part: Part, reply: Option<u8>) -> (RemoteState, Sends)
+    ensures { outcome.at_remote result.0 (put_said result.1) ≡ steps.answered j part reply }
 {
-    let (place, packet) = match reply {
-        None => (Place::Comm(part.state), Some(Packet::Ack)),
+    let (place, sends) = match reply {
+        None => (Place::Comm(part.state), Sends::Up(j, Packet::Ack)),
         Some(_) => (
             Place::Due(GuardId {
                 state: part.state,
                 guard: 0,
             }),
-            None,
+            Sends::Nothing,
         ),
     };
     let remote = RemoteState {
@@ -91,48 +107,69 @@ fn answered(part: Part, reply: Option<u8>) -> Did
         vars: part.vars,
         slot: None,
     };
-    (remote, packet)
+    (remote, sends)
 }
 
-// The remote answers the request in its slot by its first open input of the message, or nacks.
-fn answered_by(table: &Table, remote: &RemoteState, request: Request) -> Did
-    ensures { (k j : ℕ) → remote_did j result.0 result.1
-        ≡ steps.answered_by (setting_of table.now k) j remote.now request
-        (answering_guard (protocol_of table.now).remote remote.now) }
+// Remote j answers the request in its slot by its first open input of the message, or nacks.
+fn answered_by(table: &Table, remote: &RemoteState, j: u8, request: Request) -> Planned
+    ensures value { (k : ℕ) → RemotePlans j (Some result) (Some
+        (steps.answered_by (setting_of table.now k) j remote.now request
+        (answering_guard (protocol_of table.now).remote remote.now))) }
+    ensures says { Says (plans.answering_number (protocol_of table.now).remote remote.now)
+        (Some (plans.slot_message request)) result }
 {
-    let Some((_, guard)) = answering_guard(table, remote) else {
+    let message = Some((request.message, request.value));
+    let Some((number, guard)) = answering_guard(table, remote) else {
         let emptied = RemoteState {
             place: remote.place,
             vars: remote.vars,
             slot: None,
         };
-        return (emptied, Some(Packet::Nack));
+        return Planned {
+            change: Change::Remote(j, emptied),
+            sends: Sends::Up(j, Packet::Nack),
+            displaced: None,
+            guard: None,
+            message,
+        };
     };
     let part = remote_after(table, &remote.vars, guard, request.value);
-    answered(part, reply_of(table, request.message))
+    let (now, sends) = answered(j, part, reply_of(table, request.message));
+    Planned {
+        change: Change::Remote(j, now),
+        sends,
+        displaced: None,
+        guard: Some(number),
+        message,
+    }
 }
 
-/// The remote answers the request in its slot.
+/// Remote j answers the request in its slot.
 #[tactic(auto, unfolding(async_shape::specs::RemoteSteps::remote_answer))]
-pub(crate) fn remote_answer(table: &Table, remote: &RemoteState) -> Option<Did>
-    ensures { (k j : ℕ) → option_map (λ did. remote_did j did.0 did.1) result
-        ≡ steps.remote_answer (setting_of table.now k) j remote.now }
+pub(crate) fn remote_answer(table: &Table, remote: &RemoteState, j: u8) -> Option<Planned>
+    ensures value { (k : ℕ) → RemotePlans j result
+        (steps.remote_answer (setting_of table.now k) j remote.now) }
+    ensures says { IfSome result
+        (Says (plans.answering_number (protocol_of table.now).remote remote.now)
+        (option_map plans.slot_message remote.now.slot)) }
 {
     let Place::Comm(state) = remote.place else {
         return None;
     };
     let request = remote.slot?;
     match active_guard(table, state) {
-        None => Some(answered_by(table, remote, request)),
+        None => Some(answered_by(table, remote, j, request)),
         Some(_) => None,
     }
 }
 
-/// The remote sends the reply that is due.
+/// Remote j sends the reply that is due.
 #[tactic(auto, unfolding(async_shape::specs::RemoteSteps::remote_reply))]
-pub(crate) fn remote_reply(table: &Table, remote: &RemoteState) -> Option<Did>
-    ensures { (k j : ℕ) → option_map (λ did. remote_did j did.0 did.1) result
-        ≡ steps.remote_reply (setting_of table.now k) j remote.now }
+pub(crate) fn remote_reply(table: &Table, remote: &RemoteState, j: u8) -> Option<Planned>
+    ensures value { (k : ℕ) → RemotePlans j result
+        (steps.remote_reply (setting_of table.now k) j remote.now) }
+    ensures says { IfSome result (Says (plans.due_number remote.now.place)
+        (plans.due_message (protocol_of table.now) remote.now remote.now.place)) }
 {
     let Place::Due(g) = remote.place else {
         return None;
@@ -140,7 +177,13 @@ pub(crate) fn remote_reply(table: &Table, remote: &RemoteState) -> Option<Did>
     let guard = remote_guard(table, g.state, g.guard as usize)?;
     let (message, value) = given(table, guard.0, &remote.vars)?;
     let part = remote_after(table, &remote.vars, guard, Value::Unit);
-    Some((remote_at(remote, part), Some(Packet::Reply(message, value))))
+    Some(Planned {
+        change: Change::Remote(j, remote_at(remote, part)),
+        sends: Sends::Up(j, Packet::Reply(message, value)),
+        displaced: None,
+        guard: Some(g.guard),
+        message: Some((message, value)),
+    })
 }
 
 // The remote where it stands then, if it stands elsewhere.
@@ -185,15 +228,30 @@ fn down_waiting(table: &Table, remote: &RemoteState, g: GuardId, arrived: Packet
     }
 }
 
-/// The packet arrives at the remote.
-#[tactic(auto, unfolding(async_shape::specs::RemoteSteps::down))]
-pub(crate) fn down(table: &Table, remote: &RemoteState, arrived: Packet) -> RemoteState
-    ensures { (k : ℕ) → outcome.at_remote result None
-        ≡ steps.down (setting_of table.now k) remote.now arrived }
+// The remote, at which the packet has arrived.
+fn arrived_at(table: &Table, remote: &RemoteState, arrived: Packet) -> RemoteState
+    ensures { result ≡ steps.down_at (protocol_of table.now).remote remote.now remote.now.place
+        arrived }
 {
     match remote.place {
         Place::Comm(_) => down_idle(remote, arrived),
         Place::Trans(g) => down_waiting(table, remote, g, arrived),
         Place::Due(_) => *remote,
+    }
+}
+
+/// The packet arrives at remote j.
+#[tactic(auto, unfolding(async_shape::specs::RemoteSteps::down))]
+pub(crate) fn down(table: &Table, remote: &RemoteState, j: u8, arrived: Packet) -> Planned
+    ensures value { (k : ℕ) → RemotePlans j (Some result) (Some
+        (steps.down (setting_of table.now k) remote.now arrived)) }
+    ensures says { Says None None result }
+{
+    Planned {
+        change: Change::Remote(j, arrived_at(table, remote, arrived)),
+        sends: Sends::Nothing,
+        displaced: None,
+        guard: None,
+        message: None,
     }
 }

@@ -11,11 +11,14 @@ ghost use Rattle.async_machine.specs.Arriving.{IsLinked, arriving_on};
 use async_shape::Step;
 use ordered_links::{Links, Packet};
 
-/// What a step puts on a link: nothing, or a packet on the up link or the down link of a remote.
+/// What a step puts on a link.
 #[derive(Clone, Copy, Debug, PartialEq, Eq, Drop)]
-pub(crate) enum Sends {
+pub enum Sends {
+    /// It puts nothing.
     Nothing,
+    /// It puts this packet on the up link of this remote.
     Up(u8, Packet),
+    /// It puts this packet on the down link of this remote.
     Down(u8, Packet),
 }
 

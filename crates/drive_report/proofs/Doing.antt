@@ -39,7 +39,7 @@ use Rattle.async_shape.specs.declared.config.RemoteState.{RemoteState}
 use Rattle.async_shape.specs.declared.config.Request.{Request}
 use Rattle.async_shape.proofs.GuardsFound.{guards_of-at}
 use Rattle.async_machine.proofs.Choices.{first-any}
-use Rattle.async_machine.proofs.Enabling.{is_some-map}
+use Rattle.drive_report.proofs.MapsSome.{is_some-map}
 use Rattle.async_machine.proofs.Sent.{home_send-found}
 
 -- ---- guards

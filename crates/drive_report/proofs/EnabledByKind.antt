@@ -16,7 +16,7 @@ use Rattle.async_shape.specs.Next.{StepOutcome, arrival, config_after, home_move
 use Rattle.async_shape.specs.Next.{remote_moves, is_enabled}
 use Rattle.async_shape.specs.declared.config.RemoteState.{RemoteState}
 use Rattle.async_shape.specs.declared.step.Step.TheVariants as step
-use Rattle.async_machine.proofs.Enabling.{is_some-map}
+use Rattle.drive_report.proofs.MapsSome.{is_some-map}
 
 module _ (c : Config) where
   -- the step names remote j, which is there

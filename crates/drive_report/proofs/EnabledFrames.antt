@@ -25,7 +25,7 @@ use Rattle.async_shape.specs.declared.config.RemoteState.{RemoteState}
 use Rattle.async_shape.specs.declared.config.Waiting.{Waiting}
 use Rattle.async_shape.specs.declared.step.Step.{Step}
 use Rattle.async_shape.specs.declared.step.Step.TheVariants as step
-use Rattle.async_machine.proofs.Enabling.{is_some-map}
+use Rattle.drive_report.proofs.MapsSome.{is_some-map}
 use Rattle.drive_report.specs.Changes.{changed_at_home, changed_from, changed_by_remote, change_at}
 use Rattle.drive_report.specs.Changes.{change_of, IsLeft}
 use Rattle.drive_report.specs.Forms.{step_of}

@@ -1,3 +1,4 @@
+pub mod MapsSome
 pub mod NoneReady
 pub mod AllReady
 pub mod EnabledByKind

@@ -35,9 +35,9 @@ pub fn no_new_deadlock()
 {}
 
 /// The ready list has exactly the enabled steps. Each step in it is enabled. For a proper protocol
-/// each enabled step is in it, whatever its numbers: none is enabled that names a remote which isn't
-/// there, or a guard which a state can't have. So it is empty exactly where no step is enabled. This
-/// holds of every configuration, and so of each that has the shape.
+/// each enabled step is in it, whatever its numbers: none is enabled that names a remote which
+/// isn't there, or a guard which a state can't have. So it is empty exactly where no step is
+/// enabled. This holds of every configuration, and so of each that has the shape.
 pub fn ready_is_what_is_enabled()
     ensures enabled { (setting : Setting) (c : Config) (s : Step)
         → Contains (ready_list setting c) s → is_enabled setting c s ≡ true }

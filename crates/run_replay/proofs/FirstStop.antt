@@ -5,7 +5,8 @@ use Rattle.std.proofs.Common.{arith, ◌∙◌}
 use Rattle.std.proofs.lemmas.Bool.{ltb-true, ltb-false}
 use Rattle.std.proofs.lemmas.Option.{none-some, same_Some}
 use Rattle.schedule_replay.specs.Play.{Play}
-use Rattle.schedule_replay.specs.Played.{Stop, AtEnd, AtLine, TooMany, Halted, Played, stopped, behind}
+use Rattle.schedule_replay.specs.Played.{Stop, AtEnd, AtLine, TooMany, Halted, Played, stopped}
+use Rattle.schedule_replay.specs.Played.{behind}
 use Rattle.schedule_replay.specs.Played.{unless_halted, numbered_block, line_then, played_lines}
 use Rattle.schedule_replay.specs.Played.{played_from}
 use Rattle.schedule_replay.specs.PlayedItems.{blocks_of}

@@ -207,9 +207,9 @@ module _ (limits : Limits) (start : Running) (lines : List (List ℕ)) where
         fine = λ m line less there refused.
             let on = goes m less in
             let same : on.line ≡ line = same_Some on.line line (sym on.there ∙ there) in
-            let yes_refused : is_refused run_play limits line ≡ true = is-refused limits line refused
+            let is : is_refused run_play limits line ≡ true = is-refused limits line refused
             in
-            let not_refused : is_refused run_play limits line ≡ false =
+            let isnt : is_refused run_play limits line ≡ false =
             ap (is_refused run_play limits) (sym same) ∙ on.fine in
             cc;
       }

@@ -28,11 +28,11 @@ pub fn a_replay_stops_at_the_first_stop()
         ++ last_text run_play (state_behind run_play start (lines_of text) n) stop }
 {}
 
-/// What it means where a replay stops. Played to the end: each line is taken, and no claim is broken
-/// before the first line or behind any. At a line: it is the first that is refused. At too many
-/// lines: there are more than a schedule may have, and so many are taken. By a claim, behind so many
-/// lines: the configuration to which the steps of these lines lead breaks it, each claim before it
-/// in the list holds there, and behind fewer lines every claim holds.
+/// What it means where a replay stops. Played to the end: each line is taken, and no claim is
+/// broken before the first line or behind any. At a line: it is the first that is refused. At too
+/// many lines: there are more than a schedule may have, and so many are taken. By a claim, behind
+/// so many lines: the configuration to which the steps of these lines lead breaks it, each claim
+/// before it in the list holds there, and behind fewer lines every claim holds.
 pub fn a_stop_means_what_it_says()
     ensures { (limits : TheLimits) (start : Running) (text : List ℕ)
         → MeansStop limits start (lines_of text) (played run_play limits start text).stop }

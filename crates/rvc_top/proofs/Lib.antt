@@ -20,3 +20,7 @@ pub mod AuditedTraces
 pub mod AuditedRuns
 pub mod StoppedNo
 pub mod KeptRuns
+pub mod ShownRuns
+pub mod ShownWhereTold
+pub mod StoredRuns
+pub mod LossyRuns

@@ -94,6 +94,7 @@ module _ (Value : Type 0) (form : FileForm Value) (sound : IsForm form) (limits 
       );
       write_count = replayed.write_count;
       wants = λ fine. (file_wants, (replayed.wants fine).0, (replayed.wants fine).1);
+      file_stops = λ changed. absurd (changed (count, file_wants));
       unread = λ unread. absurd (unread tt);
       end = λ e r. ended;
       taken = taken;
@@ -140,4 +141,4 @@ module _ (Value : Type 0) (form : FileForm Value) (sound : IsForm form) (limits 
         (λ f checks s. inl (refused, subst (IsFile form f) says checks)))
         (subst FileDecides (sym refused) tt) count finishes
         (λ e. absurd (refused-undone reply.status refused e))
-        (λ e reads. refused-undone reply.status refused e) taken file_wants writes out_wants
+        (λ e reads. refused-undone reply.status refused e) taken file_wants writes out_wants tt

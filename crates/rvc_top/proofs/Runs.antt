@@ -1,6 +1,6 @@
 -- A run is one as its command is described, where it writes one text and where it replies to its
 -- file.
-use Rattle.std.proofs.Common.{◌≡◌, ◌+◌, subst, refl, inl, inr, IfOk, IfSome, Result, Ok, Err}
+use Rattle.std.proofs.Common.{◌≡◌, ◌+◌, subst, refl, inl, inr, IfOk, IfSome, OnErr, Result, Ok, Err}
 use Rattle.std.proofs.lemmas.Option.{IfSome_then}
 use Rattle.std.specs.declared.option.Option.{Option}
 use Rattle.proto_model.specs.Tokens.{Text}
@@ -16,7 +16,7 @@ use Rattle.rvc_top.specs.Endings.{FaultLeaves}
 use Rattle.rvc_top.specs.Endings.{FaultIsOf}
 use Rattle.rvc_top.specs.FileRead.{reading_failed, reading_wants}
 use Rattle.rvc_top.specs.Reply.{FileDecides, IsReplyTo, Delivers, Finishes}
-use Rattle.rvc_top.specs.Runs.{Seen, unseen, WasEnded, IsRun}
+use Rattle.rvc_top.specs.Runs.{Seen, unseen, WasEnded, CountsStay, IsRun}
 use Rattle.rvc_top.specs.declared.reply.Reply.{Reply}
 use Rattle.rvc_top.specs.declared.reply.Failure.{Failure}
 use Rattle.rvc_top.specs.declared.status.Status.{Status}
@@ -65,6 +65,8 @@ module _ (said : Said) (file schedule out : Seen) (answer : Status) (still_file 
       still-wants schedule still,
       wants-stay out.old.wants out.new.wants answer wants fine,
     );
+    file_stops = λ changed.
+        absurd (changed (still-count file still_file, still-wants file still_file));
     unread = λ e. still_file.same;
     end = λ e reads. absurd reads;
     taken = still-taken file still_file 0;
@@ -115,14 +117,26 @@ module _ (task : Task) (sound : IsSound task) (reads : ReadsFile task) (file sch
         (still.same, read.1),
       )
 
+  -- where a count of the file changed, there is no reply, and the sink is as it was
+  replied-stops : MayRise (reading_wants reply) file.old.wants file.new.wants
+      → OnErr reply out.Same → (CountsStay file → ⊥) → schedule.Same × out.Same
+  replied-stops file_wants unwritten changed = (still.same, by reply count file_wants unwritten)
+    where
+      by : (r : Result Reply Failure)
+          → RisesWhere (reading_failed r) file.old.faults file.new.faults
+          → MayRise (reading_wants r) file.old.wants file.new.wants → OnErr r out.Same → out.Same
+      by (Ok r) faults wants unwritten = absurd (changed (faults, wants))
+      by (Err e) faults wants unwritten = unwritten
+
   pub run-replied : IfOk reply (λ r. r.status ≡ Done → WasEnded file)
       → IfOk reply (λ r. r.status ≡ Done → ReadsSchedule task → ⊥)
       → TakesAtMost (most_of_file task) file.old.bytes file.new.bytes
       → MayRise (reading_wants reply) file.old.wants file.new.wants
       → RisesWhere (run_write_failed (kind_of answer)) out.old.faults out.new.faults
       → MayRise (run_wants (kind_of answer)) out.old.wants out.new.wants
+      → OnErr reply out.Same
       → IsRun task file schedule out answer
-  run-replied ended alone taken file_wants writes out_wants = record {
+  run-replied ended alone taken file_wants writes out_wants unwritten = record {
     bytes = of-file task reads file.old.bytes schedule.old.bytes _
         (IfSome_then file.old.bytes replies replied-bytes);
     exact = of-file task reads file.old.bytes schedule.old.bytes _
@@ -146,6 +160,7 @@ module _ (task : Task) (sound : IsSound task) (reads : ReadsFile task) (file sch
       still-wants schedule still,
       wants-stay out.old.wants out.new.wants answer out_wants fine,
     );
+    file_stops = replied-stops file_wants unwritten;
     unread = λ unread. absurd (unread reads);
     end = λ e r. finished-done (WasEnded file) out.old.bytes out.new.bytes reply answer ended
         finishes e;
@@ -180,11 +195,12 @@ module _ (Value : Type 0) (form : FileForm Value) (says : Value → Said) (file 
       → Finishes out.old.bytes out.new.bytes reply answer
       → RisesWhere (run_write_failed (kind_of answer)) out.old.faults out.new.faults
       → MayRise (run_wants (kind_of answer)) out.old.wants out.new.wants
+      → OnErr reply out.Same
       → IsRun (RepliesToFile Value form says) file unseen out answer
-  run-told sound reply replies is ended taken count file_wants finishes writes out_wants =
+  run-told sound reply replies is ended taken count file_wants finishes writes out_wants unwritten =
       run-replied (RepliesToFile Value form says) sound tt file unseen out answer
       record { at = refl; same = tt } reply replies is count finishes ended
-      (ok-any reply (λ r e reads. reads)) taken file_wants writes out_wants
+      (ok-any reply (λ r e reads. reads)) taken file_wants writes out_wants unwritten
 
   -- where it stands beside a schedule that is as it was
   pub run-beside : (schedule : Seen) → IsStill schedule
@@ -200,6 +216,7 @@ module _ (Value : Type 0) (form : FileForm Value) (says : Value → Said) (file 
     reads_stay = λ fine. ((run.reads_stay fine).0, still-count schedule still);
     write_count = run.write_count;
     wants = λ fine. ((run.wants fine).0, still-wants schedule still, (run.wants fine).2);
+    file_stops = λ changed. (still.same, (run.file_stops changed).1);
     unread = run.unread;
     end = run.end;
     taken = run.taken;

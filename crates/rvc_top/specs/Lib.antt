@@ -13,3 +13,7 @@ pub mod Storing
 pub mod BootedRuns
 pub mod AuditedRuns
 pub mod KeptRuns
+pub mod Shown
+pub mod ShownRuns
+pub mod StoredRuns
+pub mod LossyRuns

@@ -71,6 +71,10 @@ WasEnded source = IsAtEnd source.new.bytes × (source.ended ≡ true)
 abbrev pub WantsStay : Seen → Type 0
 WantsStay side = side.new.wants ≡ side.old.wants
 
+-- Both counts stayed: no call on the source or on the sink failed, and none had no memory.
+abbrev pub CountsStay : Seen → Type 0
+CountsStay side = (side.new.faults ≡ side.old.faults) × WantsStay side
+
 -- The words are refused.
 abbrev pub RefusesWords : Task → Type 0
 RefusesWords (WritesText said) = said.status ≡ Usage
@@ -96,6 +100,7 @@ pub record IsRun (task : Task) (file schedule out : Seen) (answer : Status) : Ty
       → (file.new.faults ≡ file.old.faults) × (schedule.new.faults ≡ schedule.old.faults)
   pub write_count : RisesWhere (run_write_failed (kind_of answer)) out.old.faults out.new.faults
   pub wants : (answer ≡ NoMemory → ⊥) → WantsStay file × WantsStay schedule × WantsStay out
+  pub file_stops : (CountsStay file → ⊥) → schedule.Same × out.Same
   pub unread : (ReadsFile task → ⊥) → file.Same
   pub end : answer ≡ Done → ReadsFile task → WasEnded file
   pub taken : TakesAtMost (most_of_file task) file.old.bytes file.new.bytes

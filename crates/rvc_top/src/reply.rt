@@ -1,6 +1,6 @@
 //! A text to be written, and how a run ends with it.
 
-ghost use Rattle.std.specs.Prelude.{◌≡◌};
+ghost use Rattle.std.specs.Prelude.{◌≡◌, OnErr};
 ghost use Rattle.std.specs.Result.{ForOk};
 ghost use Rattle.rv_base.specs.Outside.{RisesWhere, MayRise};
 ghost use Rattle.rvc_top.specs.Endings.{IsDecided, kind_of, run_write_failed, run_wants};
@@ -50,11 +50,12 @@ pub fn deliver<O: Sink>(out: &mut O, status: Status, text: &[u8]) -> Status
     }
 }
 
-/// Writes the reply, and answers how the run ends. Where there is none, nothing is written, and the
-/// run ends with a read fault or for want of memory.
+/// Writes the reply, and answers how the run ends. Where there is none, the sink is as it was, and
+/// the run ends with a read fault or for want of memory.
 pub fn finish<O: Sink>(out: &mut O, reply: Result<Reply, Failure>) -> Status
     requires { ForOk reply (λ r. IsDecided r.status) }
     ensures bytes { Finishes (O.taken out.old) (O.taken out.new) reply result }
+    ensures unwritten { OnErr reply (out.new ≡ out.old) }
     ensures counts { RisesWhere (run_write_failed (kind_of result))
         (O.faults out.old) (O.faults out.new) }
     ensures wants { MayRise (run_wants (kind_of result)) (O.wants out.old) (O.wants out.new) }

@@ -1,7 +1,7 @@
 //! The call that does all that the program does.
 
 ghost use Rattle.std.specs.Prelude.{◌≡◌, ◌≤◌, ◌⊎◌, ℕ, true, List, map, string_bytes, IfSome, Some};
-ghost use Rattle.std.specs.Prelude.{None};
+ghost use Rattle.std.specs.Prelude.{None, ◌++◌};
 ghost use Rattle.std.specs.Io.KnownBytes.{IsAtEnd};
 ghost use Rattle.std.specs.List.{AllByRecursion};
 ghost use Rattle.rv_base.specs.Outside.{RisesWhere, Rose};
@@ -28,8 +28,9 @@ ghost use Rattle.rvc_top.specs.Verdict.{Verdict};
 ghost use Rattle.rvc_top.specs.Endings.{ReadsFile, ReadsSchedule, NeedsNoSchedule, WhereTold};
 ghost use Rattle.rvc_top.specs.Endings.{most_of_file, most_of_schedule, DecidesSchedule};
 ghost use Rattle.rvc_top.specs.Endings.{Ends, FaultLeaves, FaultIsOf, AnswersOrFails, Answers};
-ghost use Rattle.rvc_top.specs.Endings.{IsOfSchedule, kind_of, run_write_failed};
+ghost use Rattle.rvc_top.specs.Endings.{IsDecided, IsOfSchedule, kind_of, run_write_failed};
 ghost use Rattle.rvc_top.specs.Runs.{IsRun, seen_source, seen_sink};
+ghost use Rattle.rvc_top.specs.ShownRuns.{IsShownOfFile, IsShownOfImage};
 
 use crate::example::example_text;
 use crate::file_command::run_file_command;
@@ -115,6 +116,13 @@ pub fn rvc<P: Source, Q: Source, O: Sink>(
         × (Q.wants schedule.new ≡ Q.wants schedule.old)
         × (O.wants out.new ≡ O.wants out.old) }
 
+    // Where a count of the file changed, since a read of it failed or had no memory, the run ends
+    // there, whether schedule and sink tell their bytes or not: nothing is asked of the schedule,
+    // and nothing is given to the sink.
+    ensures file_stops { ((P.faults file.new ≡ P.faults file.old)
+        × (P.wants file.new ≡ P.wants file.old) → ⊥)
+        → (schedule.new ≡ schedule.old) × (out.new ≡ out.old) }
+
     // The file is as it was where the command doesn't read it. Where a command that reads it is
     // done, its last read answered that nothing is left. No more than one byte past the limit is
     // taken.
@@ -139,6 +147,27 @@ pub fn rvc<P: Source, Q: Source, O: Sink>(
         (P.left file.old) (Q.left schedule.old) (Q.left schedule.new) result }
     ensures schedule_taken { TakesAtMost (most_of_schedule (asked words.now))
         (Q.left schedule.old) (Q.left schedule.new) }
+
+    // What `run` shows, in one statement. Where the file, the schedule and the sink tell their
+    // bytes, the run is decided and the file isn't refused: the file spells a well-formed protocol;
+    // the lines of the schedule up to what stops it say steps; what is written are the blocks of
+    // these steps, one after another from the start, and the last text, or the error text where the
+    // schedule is refused; and the block of each step says that it is refused exactly where the
+    // controllers can't take it, or an event that is one rendezvous step from what they stand for
+    // before to what they stand for after, or that it is a stutter, and they stand for the same.
+    // And so it is of `boot`, for the protocol and the mode of the control store that the file is.
+    ensures shows { (n k : ℕ) (mode : AMode) (f s old : Text)
+        → meaning (map string_bytes words.now) ≡ Some (Command.Run n k mode)
+        → P.left file.old ≡ Some f → Q.left schedule.old ≡ Some s → O.taken out.old ≡ Some old
+        → IsDecided result → (result ≡ Status.FileRefused → ⊥)
+        → (text : Text) × (O.taken out.new ≡ Some (old ++ text))
+        × IsShownOfFile n k mode f s result text }
+    ensures boot_shows { (n k : ℕ) (f s old : Text)
+        → meaning (map string_bytes words.now) ≡ Some (Command.Boot n k)
+        → P.left file.old ≡ Some f → Q.left schedule.old ≡ Some s → O.taken out.old ≡ Some old
+        → IsDecided result → (result ≡ Status.FileRefused → ⊥)
+        → (text : Text) × (O.taken out.new ≡ Some (old ++ text))
+        × IsShownOfImage n k f s result text }
 
     // What `run` shows is a refinement. Whatever steps are taken from the start of the controllers
     // that it runs, each configuration in which they stand means one of the rendezvous meaning of

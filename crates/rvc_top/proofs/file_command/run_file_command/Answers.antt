@@ -11,4 +11,4 @@ returns g c =
     (λ value. done (g.T.FileCommand.text c.args.command.now value)) _ _ f.result c.requires.form
     r.result
     r.ensures.says r.ensures.status r.ensures.end r.ensures.taken r.ensures.count r.ensures.wants
-    f.ensures.bytes f.ensures.counts f.ensures.wants
+    f.ensures.bytes f.ensures.counts f.ensures.wants f.ensures.unwritten

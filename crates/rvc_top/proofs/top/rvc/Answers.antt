@@ -1,12 +1,14 @@
 -- What is known of the run of what the words mean, clause by clause.
-use Rattle.std.proofs.Common.{None, map, string_bytes, subst, ◌∙◌}
+use Rattle.std.proofs.Common.{None, Some, map, string_bytes, subst, ◌∙◌}
 use Rattle.std.specs.declared.option.Option.{Option}
 use Rattle.rvc_top.specs.Words.{meaning}
 use Rattle.rvc_top.specs.Commands.{asked, describe}
 use Rattle.rvc_top.specs.declared.command.Command.{Command}
+use Rattle.rvc_top.specs.declared.command.Command.TheVariants.{Run, Boot}
 use Rattle.rvc_top.proofs.EveryRun.{owed}
 use Rattle.rvc_top.proofs.Complete.{run-of, run-complete, no-form}
 use Rattle.rvc_top.proofs.RunRefines.{run-refines, boot-refines, driving-still}
+use Rattle.rvc_top.proofs.ShownWhereTold.{run-shown, boot-shown}
 use Rattle.rvc_top.proofs.top.rvc.Goals as goal
 
 pub returns-clause-bytes : goal.returns-clause-bytes
@@ -63,6 +65,11 @@ returns-clause-write_count g c =
     (run-of c.words_mean.result (meaning (map string_bytes c.args.words.now))
     c.words_mean.ensures.means _ _ _ c.carry_out.result c.carry_out.ensures).write_count
 
+pub returns-clause-file_stops : goal.returns-clause-file_stops
+returns-clause-file_stops g c =
+    (run-of c.words_mean.result (meaning (map string_bytes c.args.words.now))
+    c.words_mean.ensures.means _ _ _ c.carry_out.result c.carry_out.ensures).file_stops
+
 pub returns-clause-unread : goal.returns-clause-unread
 returns-clause-unread g c =
     (run-of c.words_mean.result (meaning (map string_bytes c.args.words.now))
@@ -112,6 +119,24 @@ pub returns-clause-wants : goal.returns-clause-wants
 returns-clause-wants g c =
     (run-of c.words_mean.result (meaning (map string_bytes c.args.words.now))
     c.words_mean.ensures.means _ _ _ c.carry_out.result c.carry_out.ensures).wants
+
+pub returns-clause-shows : goal.returns-clause-shows
+returns-clause-shows g c n k mode f s old means file_is schedule_is out_is decided not_refused =
+    let numbers = subst (λ (command : Option Command). (describe command).Numbers)
+    (c.words_mean.ensures.means ∙ means) c.words_mean.ensures.limits in
+    run-shown n k _ _ _ c.carry_out.result f s old file_is schedule_is out_is decided not_refused
+    mode numbers
+    (run-of c.words_mean.result (Some (Run n k mode)) (c.words_mean.ensures.means ∙ means) _ _ _
+    c.carry_out.result c.carry_out.ensures)
+
+pub returns-clause-boot_shows : goal.returns-clause-boot_shows
+returns-clause-boot_shows g c n k f s old means file_is schedule_is out_is decided not_refused =
+    let numbers = subst (λ (command : Option Command). (describe command).Numbers)
+    (c.words_mean.ensures.means ∙ means) c.words_mean.ensures.limits in
+    boot-shown n k _ _ _ c.carry_out.result f s old file_is schedule_is out_is decided not_refused
+    numbers
+    (run-of c.words_mean.result (Some (Boot n k)) (c.words_mean.ensures.means ∙ means) _ _ _
+    c.carry_out.result c.carry_out.ensures)
 
 pub returns-clause-refines : goal.returns-clause-refines
 returns-clause-refines g c n k mode f checked means holds =

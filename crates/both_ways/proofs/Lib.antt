@@ -1,0 +1,3 @@
+pub mod NoneBefore
+pub mod CarriedComputed
+pub mod ToldCarried

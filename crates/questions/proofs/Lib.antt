@@ -1,0 +1,5 @@
+pub mod RemoteByRemote
+pub mod CondsSoFar
+pub mod StatesSoFar
+pub mod AskedSets
+pub mod AskingEnds
