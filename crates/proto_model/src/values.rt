@@ -6,6 +6,8 @@ mod number_sets;
 mod vars;
 
 pub use completing::{complete, first_vars};
-pub use evaluation::{eval, guard_open, is_target, send_value, targets};
+pub use evaluation::{
+    eval, guard_open, is_at_most, is_below, is_in, is_target, same_value, send_value, targets,
+};
 pub use number_sets::{has_number, with_number, without_number};
 pub use vars::Vars;

@@ -63,7 +63,8 @@ pub fn eval(expr: &RuleExpr, vars: &Vars) -> Value
     }
 }
 
-fn same_value(left: Value, right: Value) -> bool
+/// Whether the two values are the same.
+pub fn same_value(left: Value, right: Value) -> bool
     ensures { result ≡ values.same_value left right }
 {
     match (left, right) {
@@ -76,7 +77,8 @@ fn same_value(left: Value, right: Value) -> bool
     }
 }
 
-fn is_below(left: Value, right: Value) -> bool
+/// Whether the two values are ints, the first of them below the second.
+pub fn is_below(left: Value, right: Value) -> bool
     ensures { result ≡ values.is_below left right }
 {
     match (left, right) {
@@ -85,7 +87,8 @@ fn is_below(left: Value, right: Value) -> bool
     }
 }
 
-fn is_at_most(left: Value, right: Value) -> bool
+/// Whether the two values are ints, the first of them at most the second.
+pub fn is_at_most(left: Value, right: Value) -> bool
     ensures { result ≡ values.is_at_most left right }
 {
     match (left, right) {
@@ -94,7 +97,8 @@ fn is_at_most(left: Value, right: Value) -> bool
     }
 }
 
-fn is_in(left: Value, right: Value) -> bool
+/// Whether the one value is a node and the other a set that has it.
+pub fn is_in(left: Value, right: Value) -> bool
     ensures { result ≡ values.is_in left right }
 {
     match (left, right) {

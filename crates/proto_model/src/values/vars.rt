@@ -39,7 +39,7 @@ impl Model for Vars {
 
 impl Vars {
     /// No variables.
-    pub(super) fn new() -> Vars
+    pub fn new() -> Vars
         ensures { result ≡ [] }
     {
         Vars {
@@ -67,7 +67,7 @@ impl Vars {
     }
 
     /// Puts the value at this place; past the end nothing changes.
-    pub(super) fn set(&mut self, place: u8, value: Value)
+    pub fn set(&mut self, place: u8, value: Value)
         ensures { self.new ≡ slice_set self.old place value }
     {
         if place < self.len {
@@ -76,7 +76,7 @@ impl Vars {
     }
 
     /// One more variable, with this value.
-    pub(super) fn push(&mut self, value: Value)
+    pub fn push(&mut self, value: Value)
         requires { length self.old < 16 }
         ensures { self.new ≡ self.old ++ value ∷ [] }
     {
