@@ -51,6 +51,6 @@ pub use texts::{
     vars_text,
 };
 pub use values::{
-    Vars, complete, eval, first_vars, guard_open, has_number, is_at_most, is_below, is_in, is_target,
-    same_value, send_value, targets, with_number, without_number,
+    Vars, complete, eval, first_vars, guard_open, has_number, is_at_most, is_below, is_in,
+    is_target, same_value, send_value, targets, with_number, without_number,
 };
