@@ -1,0 +1,5 @@
+pub mod InOrder
+pub mod Ways
+pub mod Never
+pub mod Undecided
+pub mod Explored
